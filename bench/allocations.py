@@ -1,20 +1,30 @@
 #!/usr/bin/env python3
-"""Fails each allocation of each test of a crate in turn. Not part of the gate.
+"""Fails each allocation of each test of a crate in turn.
 
 Usage: bench/allocations.py CRATE|PROGRAM [TEST] [--most N]
-       (CRATE is one whose tests `rt test` built, as tests: crates/test_calls/out/test_calls_tests; PROGRAM is such a program elsewhere, as bench/sweeps.py says)
+              (CRATE is one whose tests `rt test` built, as tests: crates/test_calls/out/test_calls_tests;
+           PROGRAM is such a program elsewhere, as bench/sweeps.py says)
 
-A library put before the C library's lets the Nth call of malloc or realloc answer that there is no memory, for N = 1, 2, .. up
-to as many as the test makes (or N evenly chosen ones under --most), a run each. Want of memory is a result that code and test
-hand on: so each run must end well, or with the test's own error. A run that is killed, hangs, or answers something
-else in place of the error (a failed assertion) is listed, and the status is then 1.
+A library put before the C library's lets the Nth call of malloc or realloc answer that there is no
+memory, for N = 1, 2, .. up to as many as the test makes (or N evenly chosen ones under --most), a run
+each. Want of memory is a result that code and test hand on: so each run must end well, or with the
+test's own error. A run that is killed, hangs, or answers something else in place of the error (a failed
+assertion) is listed, and the status is then 1.
 """
 import os
 import subprocess
 import sys
 import tempfile
 
-HERE = os.path.dirname(os.path.abspath(__file__))
+from lib import HERE, preloaded
+
+RUN = {
+    "tier": "by hand",
+    "shows": "each allocation of a test is refused in turn; the test ends well or with its own "
+             "error",
+    "needs": ["libraries", "gcc"],
+    "minutes": 1,
+}
 SHIM = r"""
 #define _GNU_SOURCE
 #include <dlfcn.h>
@@ -47,11 +57,7 @@ MEMORY = ("AllocError", "AllocFailed", "no memory", "OutOfMemory")
 
 def built(folder):
     """The library that counts and fails calls."""
-    source, library = os.path.join(folder, "failing.c"), os.path.join(folder, "failing.so")
-    with open(source, "w", encoding="utf-8") as file:
-        file.write(SHIM)
-    subprocess.run(["gcc", "-shared", "-fPIC", "-O1", "-o", library, source, "-ldl"], check=True)
-    return library
+    return preloaded(folder, SHIM)
 
 
 def run(program, test, library, folder, **more):

@@ -1,11 +1,13 @@
 #!/usr/bin/env python3
-"""Measures how much an opening of the book costs: the same commands one by one, and as one batch. Not part of the gate.
+"""Measures how much an opening of the book costs: the same commands one by one, and as one batch.
 
-Usage: bench/batch.py [--largest N] [PROGRAM]   (default: 100000 entries, crates/whx12/out/whx12, which `rt run` in that folder leaves)
+Usage: bench/batch.py [--largest N] [PROGRAM]
+       (default: 100000 entries, crates/whx12/out/whx12, which `rt run` in that folder leaves)
 
-A register of 1,000, 10,000 and so on entries of one depositor is written as rows (register.py). A hundred depositors are enrolled, each by a
-command of its own, and a hundred others by `batch`. Printed are both times on the wall; `verify` must say ok of books of up to 10,000 entries.
-The status is 1 where something isn't enrolled.
+A register of 1,000, 10,000 and so on entries of one depositor is written as rows (register.py). A
+hundred depositors are enrolled, each by a command of its own, and a hundred others by `batch`. Printed
+are both times on the wall; `verify` must say ok of books of up to 10,000 entries. The status is 1 where
+something isn't enrolled.
 """
 import os
 import subprocess
@@ -13,11 +15,17 @@ import sys
 import tempfile
 import time
 
-HERE = os.path.dirname(os.path.abspath(__file__))
-sys.path.insert(0, HERE)
-import books  # noqa: E402
-import register  # noqa: E402
+import books
+import register
+from lib import figure, option, program_in
 
+RUN = {
+    "tier": "figures",
+    "shows": "what an opening costs: a hundred commands one by one, and as one batch",
+    "needs": ["program"],
+    "words": ["--largest 10000"],
+    "minutes": 0.5,
+}
 COUNT = 100
 
 
@@ -45,9 +53,9 @@ def measure(program, folder, entries):
 
 
 def main(words):
-    largest = int(words[words.index("--largest") + 1]) if "--largest" in words else 100_000
-    last = words[-1] if words and not words[-1].isdigit() else None
-    program = os.path.abspath(last or os.path.join(HERE, "..", "crates", "whx12", "out", "whx12"))
+    largest = option(words, "--largest", 100_000)
+    program = program_in(words)
+    figure("load", os.getloadavg()[0], "running")
     with tempfile.TemporaryDirectory(prefix="whx12-batch-") as folder:
         entries = 1_000
         while entries <= largest:
@@ -57,6 +65,8 @@ def main(words):
                 print(f"{entries:,} entries: {error}")
                 return 1
             print(f"{entries:,} entries: {COUNT} commands {alone:.2f} s, as one batch {together:.2f} s")
+            figure(f"{COUNT} commands one by one, {entries:,} entries", alone, "s")
+            figure(f"{COUNT} commands as one batch, {entries:,} entries", together, "s")
             entries *= 10
     return 0
 

@@ -1,26 +1,30 @@
 #!/usr/bin/env python3
-"""Measures a book in a file: commands a second and the time of an opening, by the number of entries, beside the same statements
-through Debian's C SQLite. Not part of the gate.
+"""Measures a book in a file: commands a second and the time of an opening, by the number of entries, beside
+the same statements through Debian's C SQLite.
 
-Usage: bench/books.py [--largest N] [PROGRAM]     (default: up to 100,000 entries; crates/whx12/out/whx12, which `rt run` in that folder leaves)
+Usage: bench/books.py [--largest N] [PROGRAM]
+       (default: up to 100,000 entries; crates/whx12/out/whx12, which `rt run` in that folder
+        leaves)
 
 It needs cc, GNU time and Debian's packages sqlite3 and libsqlite3-dev. For each size
 
-  - a book is made by `init` and filled with the rows of a register (bench/register.py). That the program writes just these rows is
-    looked at first, over a small register, all commands of which it is given;
-  - `take` hands in 200 interchanges of one line, an advice and an order in turn, by the depositors in turn: all are accepted. Then it hands
-    them in again: all are known. Answers are compared with those of the register;
+  - a book is made by `init` and filled with the rows of a register (bench/register.py). That the program
+    writes just these rows is looked at first, over a small register, all commands of which it is given;
+  - `take` hands in 200 interchanges of one line, an advice and an order in turn, by the depositors in
+    turn: all are accepted. Then it hands them in again: all are known. Answers are compared with those
+    of the register;
   - `stock` of a stranger is an opening, one query, and a closing;
-  - `serve` is given the same interchanges over loopback, a connection each and one after the other, and then once more: each is answered
-    with 200, and the second time with the bytes of the first. A command's time is that from its connection to its end, in this process;
-  - bench/statements.c runs the same statements over a copy of the same file, each text prepared once, a transaction for each accepted
-    command. Afterwards the two files hold the same rows.
+  - `serve` is given the same interchanges over loopback, a connection each and one after the other, and
+    then once more: each is answered with 200, and the second time with the bytes of the first. A
+    command's time is that from its connection to its end, in this process;
+  - bench/statements.c runs the same statements over a copy of the same file, each text prepared once, a
+    transaction for each accepted command. Afterwards the two files hold the same rows.
 
-Both have a log (WAL) that each commit syncs (synchronous FULL), and the file for themselves; both copy the log into the file
-once it has 1,000 pages. The program's opening reads the whole file and tests each row; C SQLite's doesn't, so its quick_check, which
-does, stands beside it. Of several runs the least time counts.
+Both have a log (WAL) that each commit syncs (synchronous FULL), and the file for themselves; both copy
+the log into the file once it has 1,000 pages. The program's opening reads the whole file and tests each
+row; C SQLite's doesn't, so its quick_check, which does, stands beside it. Of several runs the least time
+counts.
 """
-import importlib.util
 import os
 import shutil
 import sqlite3
@@ -29,15 +33,16 @@ import sys
 import tempfile
 import time
 
-HERE = os.path.dirname(os.path.abspath(__file__))
-sys.path.insert(0, HERE)
-import register  # noqa: E402
+import register
+from lib import HERE, figure, free_port, knock, once, option, program_in, same
 
-# bench/http.py, under a name of its own: the library has a module of that name
-SPEC = importlib.util.spec_from_file_location("whx12_http", os.path.join(HERE, "http.py"))
-http = importlib.util.module_from_spec(SPEC)
-SPEC.loader.exec_module(http)
-
+RUN = {
+    "tier": "figures",
+    "shows": "a book in a file by its entries, over HTTP and as files, beside C SQLite",
+    "needs": ["program", "C SQLite"],
+    "words": ["--largest 100000"],
+    "minutes": 5,
+}
 AT = ["--at", "2025-03-04T09:15"]
 SIZES = [(1, 1000), (1, 10_000), (1, 100_000), (100, 1000), (100, 10_000), (100, 100_000)]
 COMMANDS, RUNS = 200, 5
@@ -69,11 +74,6 @@ ORDER_LINE = ("INSERT INTO order_line (who, ord, line, item, lot, quantity) VALU
               "ON CONFLICT (who, ord, line) DO UPDATE SET item = ?4, lot = ?5, quantity = ?6")
 RESERVATION = ("INSERT INTO reservation (who, ord, item, lot, quantity) VALUES (?1, ?2, ?3, ?4, ?5) "
                "ON CONFLICT (who, ord, item, lot) DO UPDATE SET quantity = ?5")
-
-
-def same(what, got, wanted):
-    if got != wanted:
-        sys.exit(f"{what}: wanted {wanted!r:.300}, got {got!r:.300}")
 
 
 class Work:
@@ -224,17 +224,17 @@ def of_server(program, book, work, folder):
     """Seconds of all commands, and of all of them again, over one serving process."""
     takings, known = [], []
     for _ in range(RUNS):
-        path, port = copied(book, folder, "served.book"), http.free_port()
+        path, port = copied(book, folder, "served.book"), free_port()
         at = f"127.0.0.1:{port}"
         server = subprocess.Popen([program, "serve", "--listen", at, "--count", str(2 * COMMANDS + 1), "--book", path],
                                   stdout=subprocess.DEVNULL, stderr=subprocess.DEVNULL)
-        http.wait_for(at)
+        knock(port)
         answers = {}
         for times in (takings, known):
             seconds = 0.0
             for place, text in enumerate(work.texts):
                 head = f"POST /x12 HTTP/1.1\r\nHost: {at}\r\nContent-Length: {len(text)}\r\n\r\n"
-                spent, answer = http.once("127.0.0.1", port, (head + text).encode())
+                spent, answer = once("127.0.0.1", port, (head + text).encode())
                 seconds += spent
                 same(f"answer {place}", answer[:15], b"HTTP/1.1 200 OK")
                 same(f"answer {place}", answer, answers.setdefault(place, answer))
@@ -262,6 +262,11 @@ def of_sqlite(statements, book, work, folder):
     return min(openings), min(works), min(known), min(checks)
 
 
+def sized(what, depositors, entries):
+    """The name of a figure of a book of so many entries."""
+    return f"{what}, {entries:,} entries, {depositors} depositor{'s' if depositors > 1 else ''}"
+
+
 def measure(program, statements, depositors, entries, folder):
     made, book = register.Register(depositors, entries), f"{folder}/new.book"
     make(program, book, made)
@@ -278,12 +283,18 @@ def measure(program, statements, depositors, entries, folder):
     os.remove(book)
     print(f"{entries:8,d} {depositors:4d} {size / 1e6:7.1f} | {opening:8.3f} {COMMANDS / taken:8.0f} {COMMANDS / known:8.0f} {peak:7.1f} "
           f"| {c_opening:8.4f} {COMMANDS / c_taken:8.0f} {COMMANDS / c_known:8.0f} {check:8.3f}", flush=True)
+    for what, value, unit in (("file", size / 1e6, "MB"), ("opening", opening, "s"), ("peak memory", peak, "MiB"),
+                              ("new interchange over HTTP", COMMANDS / taken, "requests/s"),
+                              ("known interchange over HTTP", COMMANDS / known, "requests/s"),
+                              ("C SQLite, transactions", COMMANDS / c_taken, "1/s"),
+                              ("C SQLite, quick_check", check, "s")):
+        figure(sized(what, depositors, entries), value, unit)
 
 
 def main(words):
-    largest = int(words[words.index("--largest") + 1]) if "--largest" in words else 100_000
-    last = words[-1] if words and not words[-1].isdigit() else None
-    program = os.path.abspath(last or os.path.join(HERE, "..", "crates", "whx12", "out", "whx12"))
+    largest = option(words, "--largest", 100_000)
+    program = program_in(words)
+    figure("load", os.getloadavg()[0], "running")
     with tempfile.TemporaryDirectory(prefix="whx12-books-") as folder:
         statements = f"{folder}/statements"
         subprocess.run(["cc", "-O2", "-o", statements, f"{HERE}/statements.c", "-lsqlite3"], check=True)

@@ -1,37 +1,42 @@
 #!/usr/bin/env python3
-"""Opens books of version 1, and looks at what became of them: everything as it was, under version 2. Not part of the gate.
+"""Opens books of version 1, and looks at what became of them: everything as it was, under version 2.
 
 Usage: bench/carried.py [--commands N] [--seed N] [--most N] [--kills N] [--entries N] [--measure N] [PROGRAM]
-       (default: 40 commands, 500 allocations and calls, 200 kills, books of 10,000 entries, crates/whx12/out/whx12, which `rt run` in that
+              (default: 40 commands, 500 allocations and calls, 200 kills, books of 10,000 entries,
+           crates/whx12/out/whx12, which `rt run` in that
        folder leaves)
        bench/carried.py --make OLD_PROGRAM
 
-The books of version 1 stand in bench/version1. The program of the last commit before version 2 (90bcce6) made them, by `--make`, from the
-commands that stand below: a book of which nobody is a depositor yet; an advice, its count and an order that finds too little; an advice with
-a date, which version 1 refused; an order of 100 lines, which version 1 refused; and a day of two depositors with orders that are open
-and short although goods came for them since. A copy of each is opened by each kind of command first. Then
+The books of version 1 stand in bench/version1. The program of the last commit before version 2 (90bcce6)
+made them, by `--make`, from the commands that stand below: a book of which nobody is a depositor yet; an
+advice, its count and an order that finds too little; an advice with a date, which version 1 refused; an
+order of 100 lines, which version 1 refused; and a day of two depositors with orders that are open and
+short although goods came for them since. A copy of each is opened by each kind of command first. Then
 
-  - `book` has version 2, each entry has the first rules, no lot has a date, and every other row of every table is as it was; the tables are
-    made by the words that a new book's are made by; `verify` says ok;
-  - stock, outbox, each text that went out and each picking sheet are those of the second reading of the rules (bench/model.py), which
-    played the same commands by the first rules;
+  - `book` has version 2, each entry has the first rules, no lot has a date, and every other row of every
+    table is as it was; the tables are made by the words that a new book's are made by; `verify` says ok;
+  - stock, outbox, each text that went out and each picking sheet are those of the second reading of the
+    rules (bench/model.py), which played the same commands by the first rules;
   - each command of the book, given again, gets its stored answer, and no row changes;
-  - what comes next is judged by the second rules: commands with answers that were worked out by hand, and random commands, beside the
-    second reading.
+  - what comes next is judged by the second rules: commands with answers that were worked out by hand,
+    and random commands, beside the second reading.
 
-A book of another version than 1 and 2, or without its one row, is told as 43, and one that can't be carried over for another cause by a fault;
-each stays as it is. `init` doesn't make a book over one of version 1. A table of the house's own beside a book of version 1 stays as it is.
+A book of another version than 1 and 2, or without its one row, is told as 43, and one that can't be
+carried over for another cause by a fault; each stays as it is. `init` doesn't make a book over one of
+version 1. A table of the house's own beside a book of version 1 stays as it is.
 
-Then allocations of an opening that carries a book over are refused in turn, and its reads, writes, syncs and openings fail in turn, at most N
-of each under --most N, evenly chosen: the old book is left or the whole new one, and the next opening is as the first would have been.
+Then allocations of an opening that carries a book over are refused in turn, and its reads, writes, syncs
+and openings fail in turn, at most N of each under --most N, evenly chosen: the old book is left or the
+whole new one, and the next opening is as the first would have been.
 
---kills N kills an opening of a book of so many --entries N times, at moments spread over its time: the files hold, to sqlite3, the book as
-it was or the whole of it under version 2; then it is opened again, and `verify` says ok. Where standard error is a terminal, an opening says how far it is. --measure N tells the time and the memory of the
-opening that carries a book over, and of the next one, over 1,000, 10,000 .. up to N entries. Rows of long books are written by
-bench/register.py into a copy of the book without depositors. The folder of a run that fails is kept, and the status is then 1.
+--kills N kills an opening of a book of so many --entries N times, at moments spread over its time: the
+files hold, to sqlite3, the book as it was or the whole of it under version 2; then it is opened again,
+and `verify` says ok. Where standard error is a terminal, an opening says how far it is. --measure N
+tells the time and the memory of the opening that carries a book over, and of the next one, over 1,000,
+10,000 .. up to N entries. Rows of long books are written by bench/register.py into a copy of the book
+without depositors. The folder of a run that fails is kept, and the status is then 1.
 """
 import os
-import pty
 import random
 import shutil
 import signal
@@ -41,17 +46,25 @@ import sys
 import tempfile
 import time
 
-HERE = os.path.dirname(os.path.abspath(__file__))
-sys.path.insert(0, HERE)
-import allocations  # noqa: E402
-import books  # noqa: E402
-import compare  # noqa: E402
-import faults  # noqa: E402
-import memory  # noqa: E402
-import model  # noqa: E402
-import register  # noqa: E402
-import tables  # noqa: E402
+import allocations
+import books
+import compare
+import faults
+import lib
+import memory
+import model
+import register
+import tables
+from lib import HERE, Wrong, on_terminal, option, program_in, same
 
+RUN = {
+    "tier": "night",
+    "shows": "books of version 1 are carried over: every row, text and answer as before; a "
+             "killed opening leaves the old book or the whole new one",
+    "needs": ["program", "gcc"],
+    "words": ["--kills 40"],
+    "minutes": 10,
+}
 KEPT = os.path.join(HERE, "version1")
 HOUSE, ACME, BETA = b"ZZ-WHSE1", b"ZZ-ACME", b"ZZ-BETA"
 AT, LATER = "2025-03-04T09:15", "2025-03-05T10:00"
@@ -60,33 +73,17 @@ NOT_THIS = (3, b"", b"fault 43 NotThisBook\n")
 compare.NUMBERS = [b"SHP1", b"SHP2", b"SHP3", b"ORD1", b"ORD2", b"ORD3", b"N1", b"N2", b"N3", b"N4"]
 
 
-class Wrong(Exception):
-    """What was found isn't what it must be."""
-
-
-def same(what, got, wanted):
-    if got != wanted:
-        raise Wrong(f"{what}:\nwanted {wanted!r:.2000}\ngot    {got!r:.2000}")
-
-
 # --- the books of version 1 ----------------------------------------------------------------------------------------------------
-
-
-def closed(kind, *segments):
-    """A set of these segments."""
-    return "".join(segment + "~" for segment in [f"ST*{kind}*0001", *segments, f"SE*{len(segments) + 2}*0001"])
 
 
 def received(name, function, number, kind, *segments):
     """An interchange of a depositor with one set, as bytes."""
-    return register.interchange(name, "WHSE1", function, number, closed(kind, *segments)).encode()
+    return register.interchange(name, "WHSE1", function, number, lib.set_of(kind, segments)).encode()
 
 
 def advice(name, number, shipment, *lines):
     """An advice of lines of quantity, item, lot and date, where there is one."""
-    inner = [f"W04*{quantity}*EA**SK*{item}~N9*LT*{lot}{f'**{day[0]}' if day else ''}" for quantity, item, lot, *day in lines]
-    segments = "~".join([f"W06*F*PO-{shipment}*20250303*{shipment}", *inner, f"W03*{sum(line[0] for line in lines)}"]).split("~")
-    return received(name, "AR", number, "943", *segments)
+    return register.interchange(name, "WHSE1", "AR", number, lib.advice(shipment, lines, f"PO-{shipment}")).encode()
 
 
 def order(name, number, ord_, lines, *party):
@@ -155,7 +152,7 @@ DAYS = {
 def sent(number, function, group, kind, *inner):
     """The answer to a group of one set of ZZ-ACME: AK lines of the set, and how many passed."""
     *lines, passed = inner
-    return tables.sent("FA", number, closed("997", f"AK1*{function}*{group}", f"AK2*{kind}*0001", *lines, f"AK9*{'A' if passed else 'R'}*1*1*{passed}"))
+    return tables.sent("FA", number, lib.set_of("997", [f"AK1*{function}*{group}", f"AK2*{kind}*0001", *lines, f"AK9*{'A' if passed else 'R'}*1*1*{passed}"]))
 
 
 # What version 1 answered where version 2 would answer otherwise: the depositor, its number, and the text. The N9 is the fourth
@@ -562,15 +559,8 @@ def watched(program, folder):
     book, other = long_book(folder, 2, 250), os.path.join(folder, "other.book")
     copied(book, other)
     for words, at, wanted in (("depositors", book, over), ("depositors", book, b""), ("verify", other, over + checked), ("verify", other, checked)):
-        mine, its = pty.openpty()
-        ran = subprocess.run([program, words, "--book", at], stdout=subprocess.PIPE, stderr=its, check=False)
-        os.write(its, b"#")
-        told = b""
-        while not told.endswith(b"#"):
-            told += os.read(mine, 65536)
-        os.close(its)
-        os.close(mine)
-        same("what is said on a terminal", (ran.returncode, told), (0, wanted + b"#"))
+        status, _, shown = on_terminal([program, words, "--book", at])
+        same("what a terminal shows", (status, shown), (0, wanted))
 
 
 def measure(program, folder, largest):
@@ -584,6 +574,8 @@ def measure(program, folder, largest):
             same(f"rows of {entries} entries", rows_of(book)[0], after)
             print(f"{entries:,} entries of {depositors}, {size / 1e6:.1f} MB: carried over in {first:.2f} s with {peak:.0f} MiB; the next opening {second:.2f} s, "
                   f"{later:.0f} MiB; the file then {os.path.getsize(book) / 1e6:.1f} MB", flush=True)
+            lib.figure(books.sized("carrying over", depositors, entries), first, "s")
+            lib.figure(books.sized("the next opening", depositors, entries), second, "s")
             for end in ("", "-wal", ".seen"):
                 if os.path.exists(book + end):
                     os.remove(book + end)
@@ -609,25 +601,24 @@ def make(program):
 
 
 def main(words):
-    option = lambda name, default: int(words[words.index(name) + 1]) if name in words else default
     if "--make" in words:
         make(os.path.abspath(words[-1]))
         return 0
-    seed = option("--seed", 1)
-    last = words[-1] if words and not words[-1].isdigit() and not words[-1].startswith("--") else None
-    program = os.path.abspath(last or os.path.join(HERE, "..", "crates", "whx12", "out", "whx12"))
+    seed, most, commands = option(words, "--seed", 1), option(words, "--most", 500), option(words, "--commands", 40)
+    kills, entries, rounds = option(words, "--kills", 200), option(words, "--entries", 10_000), option(words, "--measure", 0)
+    program = program_in(words)
     folder = tempfile.mkdtemp(prefix="carried")
     try:
-        given = sum(House(program, name, folder).look_all_over(option("--commands", 40), seed) for name in DAYS)
+        given = sum(House(program, name, folder).look_all_over(commands, seed) for name in DAYS)
         beside(program, folder)
         spoiled = spoil(program, folder)
         print(f"{len(DAYS)} books of version 1, {given} commands: all carried over, and every row and answer as it has to be; {spoiled} other books "
               "told as faults and left as they are", flush=True)
         watched(program, folder)
-        if option("--most", 500):
-            cut_short(program, folder, option("--most", 500))
-        kill(program, folder, option("--kills", 200), option("--entries", 10_000), seed)
-        measure(program, folder, option("--measure", 0))
+        if most:
+            cut_short(program, folder, most)
+        kill(program, folder, kills, entries, seed)
+        measure(program, folder, rounds)
     except Wrong as wrong:
         print(f"{wrong}\nkept: {folder}")
         return 1

@@ -1,11 +1,12 @@
 #!/usr/bin/env python3
-"""Runs the program with a clock that is set by hand. Not part of the gate.
+"""Runs the program with a clock that is set by hand.
 
 Usage: bench/clock.py [PROGRAM]     (default: crates/whx12/out/whx12, which `rt run` in that folder leaves)
 
-A library put before the C library's answers clock_gettime with the seconds that a file holds. Outside the years 2000 to 2099 a command
-that takes its moment from the clock is a usage fault, and nothing is done; in them the answer has the clock's moment. A server that
-the clock leaves in the lurch goes on with the last good moment. The status is 1 where something is otherwise.
+A library put before the C library's answers clock_gettime with the seconds that a file holds. Outside
+the years 2000 to 2099 a command that takes its moment from the clock is a usage fault, and nothing is
+done; in them the answer has the clock's moment. A server that the clock leaves in the lurch goes on with
+the last good moment. The status is 1 where something is otherwise.
 """
 import calendar
 import os
@@ -15,7 +16,17 @@ import sys
 import tempfile
 import time
 
-HERE = os.path.dirname(os.path.abspath(__file__))
+import lib
+from lib import program_of, same
+
+RUN = {
+    "tier": "night",
+    "shows": "a clock outside the years that the program takes, at its start and while a "
+             "server runs",
+    "needs": ["program", "gcc"],
+    "words": [""],
+    "minutes": 0.3,
+}
 SHIM = r"""
 #define _GNU_SOURCE
 #include <stdio.h>
@@ -39,14 +50,7 @@ GOOD = [(2000, 1, 1, 0, 0), (2099, 12, 31, 23, 59)]
 
 def advice(n):
     """A 943 of one line under a control number and a shipment number of its own."""
-    return (f"ISA*00*          *00*          *ZZ*ACME           *ZZ*WHSE1          *250304*0915*U*00401*{n:09d}*0*P*>~"
-            f"GS*AR*ACME*WHSE1*20250304*0915*{n}*X*004010~ST*943*0001~W06*F*PO77*20250303*SHP{n}~W04*5*EA**SK*BOLT~N9*LT*L1~"
-            f"W03*5~SE*6*0001~GE*1*{n}~IEA*1*{n:09d}~")
-
-
-def same(what, got, wanted):
-    if got != wanted:
-        sys.exit(f"{what}: wanted {wanted!r}, got {got!r}")
+    return lib.interchange("AR", n, lib.advice(f"SHP{n}", [(5, "BOLT", "L1")]))
 
 
 class House:
@@ -147,7 +151,7 @@ def server(house):
 
 
 def main(words):
-    program = os.path.abspath(words[0] if words else os.path.join(HERE, "..", "crates", "whx12", "out", "whx12"))
+    program = program_of(words[0] if words else None)
     with tempfile.TemporaryDirectory(prefix="whx12-clock-") as folder:
         house = House(program, folder)
         commands(house)

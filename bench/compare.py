@@ -1,17 +1,20 @@
 #!/usr/bin/env python3
-"""Plays random days through the program and through the second reading of the rules (bench/model.py), and compares what is printed,
-what is told on standard error and the exit status, byte for byte. Not part of the gate.
+"""Plays random days through the program and through the second reading of the rules (bench/model.py), and
+compares what is printed, what is told on standard error and the exit status, byte for byte.
 
 Usage: bench/compare.py [--days N] [--seed N] [--rules 1|2] [--batch | --server] [PROGRAM]
-       (default: crates/whx12/out/whx12, which `rt run` in that folder leaves; the second version of the rules)
+              (default: crates/whx12/out/whx12, which `rt run` in that folder leaves; the second version of
+           the rules)
 
-A day is played by `script`, over a book in memory; with --batch by `init` and then `batch`, over a book in a file, and `verify` must say ok
-after it. With --server each command that a server takes is asked of one (`serve --clerks`), at one moment for the whole day; the others are given over
-the book once the server is killed, and `verify` must say ok in the end.
+A day is played by `script`, over a book in memory; with --batch by `init` and then `batch`, over a book
+in a file, and `verify` must say ok after it. With --server each command that a server takes is asked of
+one (`serve --clerks`), at one moment for the whole day; the others are given over the book once the
+server is killed, and `verify` must say ok in the end.
 
-A day is a script of up to 40 commands of two depositors and strangers: interchanges with advices, orders and acknowledgments, good
-ones and such as were changed in a byte, an element, a segment or a group; resends; counts, picks and recounts with good and bad
-sheets; reports. The first day that differs is kept in a folder, whose name is printed, and the status is then 1.
+A day is a script of up to 40 commands of two depositors and strangers: interchanges with advices, orders
+and acknowledgments, good ones and such as were changed in a byte, an element, a segment or a group;
+resends; counts, picks and recounts with good and bad sheets; reports. The first day that differs is kept
+in a folder, whose name is printed, and the status is then 1.
 """
 import os
 import random
@@ -19,10 +22,17 @@ import subprocess
 import sys
 import tempfile
 
-HERE = os.path.dirname(os.path.abspath(__file__))
-sys.path.insert(0, HERE)
-import model  # noqa: E402
+import model
+from lib import option, program_in
 
+RUN = {
+    "tier": "night",
+    "shows": "random days give what a second reading of the rules (model.py) gives, byte for "
+             "byte; as a script, a batch, and through a server",
+    "needs": ["program"],
+    "words": ["--days 2000", "--days 40 --batch", "--days 8 --server"],
+    "minutes": 3,
+}
 WHO = [b"ACME", b"BETA"]
 ITEMS = [b"BOLT", b"NUT", b"A-1.X", b"Z"]
 LOTS = [b"L1", b"L2", b"L10", b"B"]
@@ -159,7 +169,8 @@ class Day:
                 segments[at] = [r.choice(IDS)] + segment[1:]
             else:
                 place = r.randrange(1, 16)
-                isa[place] = r.choice([b"01", b"X", b"1", b"250230", b"2460", b"T", b"U", b"WHSE2", b"ZZ", b"999999999", b"acme", b" ACME"])[:len(isa[place])].ljust(len(isa[place]))
+                odd = r.choice([b"01", b"X", b"1", b"250230", b"2460", b"T", b"U", b"WHSE2", b"ZZ", b"999999999", b"acme", b" ACME"])
+                isa[place] = odd[:len(isa[place])].ljust(len(isa[place]))
             if not segments:
                 return
         if r.random() < 0.7:
@@ -320,14 +331,12 @@ class Day:
 
 
 def main(words):
-    option = lambda name, default: int(words[words.index(name) + 1]) if name in words else default
-    days, seed = option("--days", 300), option("--seed", 1)
-    last = words[-1] if words and not words[-1].isdigit() and not words[-1].startswith("--") else None
-    program = os.path.abspath(last or os.path.join(HERE, "..", "crates", "whx12", "out", "whx12"))
+    days, seed = option(words, "--days", 300), option(words, "--seed", 1)
+    rules, program = option(words, "--rules", 2), program_in(words)
     commands = 0
     for day in range(seed, seed + days):
         folder = tempfile.mkdtemp(prefix="day")
-        one = Day(day, folder, option("--rules", 2), "--server" in words)
+        one = Day(day, folder, rules, "--server" in words)
         same, ran = one.play(program, "--batch" in words)
         commands += len(one.script)
         if not same:

@@ -1,18 +1,23 @@
 #!/usr/bin/env python3
-"""What a command costs in processor time over one opening of a book, beside the same statements through Debian's C SQLite. Not part of the gate.
+"""What a command costs in processor time over one opening of a book, beside the same statements through
+Debian's C SQLite.
 
-Usage: bench/costs.py [--largest N] [--picture FILE] [PROGRAM]   (default: up to 100,000 entries; crates/whx12/out/whx12, which `rt run` in that folder leaves)
+Usage: bench/costs.py [--largest N] [PROGRAM]
+       (default: up to 100,000 entries; crates/whx12/out/whx12, which `rt run` in that folder
+        leaves)
 
-It needs cc and Debian's package libsqlite3-dev. For each size a book is filled as by bench/books.py, whose interchanges of one line, 2,000 of them
-(an advice and an order in turn), are then given to the program as one `batch`, a `send` for each file, and given again, when all are known. From the
-processor time of a batch that of an opening is taken: a batch whose one line asks for the stock of a stranger. Beside it bench/statements.c runs the
-statements of the same commands in one process, prepared once, without reading a file, judging or answering; its processor time counts from after its opening.
+It needs cc and Debian's package libsqlite3-dev. For each size a book is filled as by bench/books.py,
+whose interchanges of one line, 2,000 of them (an advice and an order in turn), are then given to the
+program as one `batch`, a `send` for each file, and given again, when all are known. From the processor
+time of a batch that of an opening is taken: a batch whose one line asks for the stock of a stranger.
+Beside it bench/statements.c runs the statements of the same commands in one process, prepared once,
+without reading a file, judging or answering; its processor time counts from after its opening.
 
-Then one interchange of a mebibyte, 1,000 advices of 23 lines over 9,200 pairs, is sent to an empty book, beside the statements of its rows: each row of
-`stock` once, and each other row once. The system's time for a process counts as its own. Of several runs the least counts. With `--picture` the
-cost of a command by the entries of the book is drawn into a file of SVG, beside what version 1 of the program took. The status is 1 where a file of rows differs.
+Then one interchange of a mebibyte, 1,000 advices of 23 lines over 9,200 pairs, is sent to an empty book,
+beside the statements of its rows: each row of `stock` once, and each other row once. The system's time
+for a process counts as its own. Of several runs the least counts. The status is 1 where a file of rows
+differs.
 """
-import math
 import os
 import resource
 import shutil
@@ -21,20 +26,22 @@ import subprocess
 import sys
 import tempfile
 
-HERE = os.path.dirname(os.path.abspath(__file__))
-sys.path.insert(0, HERE)
-import books  # noqa: E402
-import measure as large  # noqa: E402
-import register  # noqa: E402
+import books
+import measure as large
+import register
+from lib import HERE, figure, option, program_in
 
+RUN = {
+    "tier": "figures",
+    "shows": "a command's processor time over one opening, new, known and as a mebibyte, "
+             "beside C SQLite",
+    "needs": ["program", "C SQLite"],
+    "words": ["--largest 100000"],
+    "minutes": 3,
+}
 SIZES = [1000, 10_000, 100_000]
 COMMANDS, RUNS = 2000, 5
-WIDE, HIGH, LEFT, FOOT = 640, 360, 70, 50
-MEASURED = ["whx12, new", "whx12, known", "C SQLite, new", "C SQLite, known"]
-BEFORE = "version 1, new"
-COLOURS = {BEFORE: "#3b7d3b", **dict(zip(MEASURED, ["#1f5fa8", "#7fb0e0", "#a8431f", "#e0a17f"]))}
-# microseconds of wall time that `take` of version 1 needed for a new command, by the entries of a hundred depositors (23 November 2026)
-VERSION_1 = {1000: 2101, 10_000: 3012, 100_000: 11_628}
+MEASURED = ["new command", "known command", "C SQLite, new command", "C SQLite, known command"]
 
 
 def spent(words, wanted):
@@ -142,49 +149,25 @@ def of_mebibyte(program, statements, folder):
     return min(ours) - min(openings), min(theirs), min(known), count
 
 
-def picture(path, figures):
-    """The cost of a command by the entries of the book, both by tens."""
-    lines = {name: [row[at] for row in figures.values()] for at, name in enumerate(MEASURED)}
-    lines[BEFORE] = [VERSION_1[entries] for entries in figures]
-    low = math.floor(math.log10(min(map(min, lines.values()))))
-    high = math.ceil(math.log10(max(map(max, lines.values()))))
-    across = lambda place: LEFT + place * (WIDE - LEFT - 150) / (len(figures) - 1)
-    up = lambda value: HIGH - FOOT - (math.log10(value) - low) / (high - low) * (HIGH - FOOT - 30)
-    parts = [f'<svg xmlns="http://www.w3.org/2000/svg" width="{WIDE}" height="{HIGH}" font-family="sans-serif" font-size="12">',
-             f'<rect width="{WIDE}" height="{HIGH}" fill="white"/>',
-             f'<text x="{LEFT}" y="18">Time of a command, in microseconds, by the entries of the book</text>']
-    for tick in (10 ** power for power in range(low, high + 1)):
-        parts += [f'<line x1="{LEFT}" x2="{WIDE - 140}" y1="{up(tick):.1f}" y2="{up(tick):.1f}" stroke="#ddd"/>',
-                  f'<text x="{LEFT - 8}" y="{up(tick) + 4:.1f}" text-anchor="end">{tick:,}</text>']
-    for place, entries in enumerate(figures):
-        parts.append(f'<text x="{across(place):.1f}" y="{HIGH - FOOT + 20}" text-anchor="middle">{entries:,}</text>')
-    for name, values in lines.items():
-        points = " ".join(f"{across(place):.1f},{up(value):.1f}" for place, value in enumerate(values))
-        parts += [f'<polyline points="{points}" fill="none" stroke="{COLOURS[name]}" stroke-width="2"/>',
-                  f'<text x="{across(len(values) - 1) + 8:.1f}" y="{up(values[-1]) + 4:.1f}" fill="{COLOURS[name]}">{name}</text>']
-    with open(path, "w", encoding="ascii") as file:
-        file.write("\n".join([*parts, "</svg>"]) + "\n")
-
-
 def main(words):
-    largest = int(words[words.index("--largest") + 1]) if "--largest" in words else SIZES[-1]
-    drawn = words[words.index("--picture") + 1] if "--picture" in words else None
-    last = words[-1] if words and words[-1] not in (drawn, str(largest)) else None
-    program = os.path.abspath(last or os.path.join(HERE, "..", "crates", "whx12", "out", "whx12"))
+    largest = option(words, "--largest", SIZES[-1])
+    program = program_in(words)
     books.COMMANDS = COMMANDS
+    figure("load", os.getloadavg()[0], "running")
     with tempfile.TemporaryDirectory(prefix="whx12-costs-") as folder:
         statements = f"{folder}/statements"
         subprocess.run(["cc", "-O2", "-o", statements, f"{HERE}/statements.c", "-lsqlite3"], check=True)
         print(f"C SQLite {sqlite3.sqlite_version}; load {os.getloadavg()[0]:.1f}; least of {RUNS} runs, microseconds of processor time a command")
         print(" entries |    new      C  times |  known      C  times")
-        figures = {}
         for entries in (size for size in SIZES if size <= largest):
-            new, known, c_new, c_known = figures[entries] = of_size(program, statements, entries, folder)
+            new, known, c_new, c_known = times = of_size(program, statements, entries, folder)
             print(f"{entries:8,d} | {new:6.0f} {c_new:6.0f} {new / c_new:6.1f} | {known:6.0f} {c_known:6.0f} {known / c_known:6.1f}", flush=True)
+            for what, value in zip(MEASURED, times):
+                figure(books.sized(what, 1, entries), value, "us")
         ours, theirs, known, count = of_mebibyte(program, statements, folder)
         print(f"a mebibyte of advices, {count} rows: {ours:.3f} s, C {theirs:.3f} s, {ours / theirs:.1f} times; again, when it is known: {known:.4f} s")
-    if drawn:
-        picture(drawn, figures)
+        figure("mebibyte of advices", ours, "s")
+        figure("C SQLite, mebibyte of advices", theirs, "s")
 
 
 if __name__ == "__main__":

@@ -1,21 +1,32 @@
 #!/usr/bin/env python3
-"""Tries further wrong bodies, which the prover must refuse too. Not part of the gate, for its time.
+"""Tries further wrong bodies, which the prover must refuse too.
 
-Usage: bench/edits.py [--twins] [CRATE..]     (default: every crate with a folder in bench/edits, or in bench/twins)
+Usage: bench/edits.py [--twins] [CRATE..]
+       (default: every crate with a folder in bench/edits, or in bench/twins)
 
-The gate has the wrong bodies that have a name in this trade. Those of bench/edits/CRATE are put beside them, in crates/CRATE/must-fail, for
-as long as `rt must-fail CRATE` runs, each of them by itself: in a copy of the crate, over the work that `rt check` left. What the
-prover says of each is printed; the status is 1 where one isn't refused.
+CI has the wrong bodies that have a name in this trade. Those of bench/edits/CRATE are put beside them,
+in crates/CRATE/must-fail, for as long as `rt must-fail CRATE` runs, each of them by itself: in a copy of
+the crate, over the work that `rt check` left. What the prover says of each is printed; the status is 1
+where one isn't refused.
 
-With --twins it tries the bodies of bench/twins/CRATE instead, which must be proved. Each has the form of wrong bodies of the gate and
-does no harm: where it is proved, those are refused for what they do, and not for their form. The status is 1 where one is refused.
+With --twins it tries the bodies of bench/twins/CRATE instead, which must be proved. Each has the form of
+wrong bodies of CI and does no harm: where it is proved, those are refused for what they do, and not for
+their form. The status is 1 where one is refused.
 """
 import os
 import shutil
 import subprocess
 import sys
 
-TOP = os.path.dirname(os.path.dirname(os.path.abspath(__file__)))
+from lib import TOP
+
+RUN = {
+    "tier": "by hand",
+    "shows": "each further wrong body (edits/) is refused by the prover; with --twins, each "
+             "harmless twin (twins/) is proved",
+    "needs": ["libraries"],
+    "minutes": 240,
+}
 
 
 def tried(crate, folder, twins):

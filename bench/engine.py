@@ -1,13 +1,16 @@
 #!/usr/bin/env python3
-"""How much of a command's work is its engine's: instructions, counted by callgrind, beside those of C SQLite. Not part of the gate.
+"""How much of a command's work is its engine's: instructions, counted by callgrind, beside those of C
+SQLite.
 
 Usage: bench/engine.py [PROGRAM]   (default: crates/whx12/out/whx12, which `rt run` in that folder leaves)
 
-It needs valgrind, cc and Debian's package libsqlite3-dev. A batch of 200 interchanges of one line (an advice and an order in turn) is given to a book of
-1,000 entries, then the same batch again, when all are known, and an interchange of a mebibyte to an empty book, as in bench/costs.py; what an opening
-takes is taken off. `engine` are the instructions of all calls that the program's own crates make of the kit's SQLite (crates `sqlite..`), with what these
-call in turn. So a program whose own crates cost nothing would still take that. Beside it bench/statements.c runs the same statements by C SQLite, prepared
-once. Instructions don't depend on what else the machine does.
+It needs valgrind, cc and Debian's package libsqlite3-dev. A batch of 200 interchanges of one line (an
+advice and an order in turn) is given to a book of 1,000 entries, then the same batch again, when all are
+known, and an interchange of a mebibyte to an empty book, as in bench/costs.py; what an opening takes is
+taken off. `engine` are the instructions of all calls that the program's own crates make of the kit's
+SQLite (crates `sqlite..`), with what these call in turn. So a program whose own crates cost nothing
+would still take that. Beside it bench/statements.c runs the same statements by C SQLite, prepared once.
+Instructions don't depend on what else the machine does.
 """
 import os
 import re
@@ -15,14 +18,21 @@ import subprocess
 import sys
 import tempfile
 
-HERE = os.path.dirname(os.path.abspath(__file__))
-sys.path.insert(0, HERE)
-import books  # noqa: E402
-import costs  # noqa: E402
-import measure as large  # noqa: E402
-import register  # noqa: E402
+import books
+import costs
+import measure as large
+import register
+from lib import HERE, figure, program_of
 
+RUN = {
+    "tier": "figures",
+    "shows": "how many of a command's instructions are its engine's, beside C SQLite's",
+    "needs": ["program", "C SQLite", "valgrind"],
+    "words": [""],
+    "minutes": 4,
+}
 COMMANDS = 200
+NAMES = {"new": "new command", "known": "known command", "mebibyte": "mebibyte of advices"}
 OWN = re.compile(r"^(books|book_tables|book_statements|running|commands|store)::")
 
 
@@ -101,7 +111,8 @@ def of_mebibyte(program, statements, folder, idle):
 
 
 def main(words):
-    program = os.path.abspath(words[0] if words else os.path.join(HERE, "..", "crates", "whx12", "out", "whx12"))
+    program = program_of(words[0] if words else None)
+    figure("load", os.getloadavg()[0], "running")
     with tempfile.TemporaryDirectory(prefix="whx12-engine-") as folder:
         statements = f"{folder}/statements"
         subprocess.run(["cc", "-O2", "-o", statements, f"{HERE}/statements.c", "-lsqlite3"], check=True)
@@ -112,6 +123,8 @@ def main(words):
     for name, count, (whole, engine), theirs in rows:
         whole, engine, theirs = (value / count / 1000 for value in (whole, engine, theirs))
         print(f"{name:9} | {whole:9,.0f} | {engine:9,.0f} | {theirs:9,.0f} | {whole / theirs:9.1f} | {engine / theirs:8.1f}")
+        figure(f"instructions, {NAMES[name]}, program / C", whole / theirs, "times")
+        figure(f"instructions, {NAMES[name]}, engine / C", engine / theirs, "times")
 
 
 if __name__ == "__main__":

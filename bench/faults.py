@@ -1,36 +1,33 @@
 #!/usr/bin/env python3
-"""Lets each read, write, sync and opening of each command of the program fail in turn. Not part of the gate.
+"""Lets each read, write, sync and opening of each command of the program fail in turn.
 
-Usage: bench/faults.py [--most N] [--only NAME] [PROGRAM]     (default: all calls, crates/whx12/out/whx12, which `rt run` in that folder leaves)
+Usage: bench/faults.py [--most N] [--only NAME] [PROGRAM]
+       (default: all calls, crates/whx12/out/whx12, which `rt run` in that folder leaves)
 
-A library put before the C library's lets the Nth call of open, read, write, pread, pwrite, fsync, fdatasync, ftruncate, unlink, rename or lseek give EIO, for
-N = 1, 2, .. up to as many as a command makes, a process each, over a copy of the book as it stood before the command (memory.py has the commands). Calls on
-standard output and standard error count too. Each process must end by itself: as without the fault, or with `fault 40`, `41`, `43` or `44` and status 3, or,
-where what fails is a word's own file, with its own refusal; where standard error itself failed nothing is told. The command given again then says what it
-must, its own text or the stored one, `verify` says ok, and stock and outbox are as after the command. The status is 1 where something differs; the folder is
-then kept.
+A library put before the C library's lets the Nth call of open, read, write, pread, pwrite, fsync,
+fdatasync, ftruncate, unlink, rename or lseek give EIO, for N = 1, 2, .. up to as many as a command
+makes, a process each, over a copy of the book as it stood before the command (memory.py has the
+commands). Calls on standard output and standard error count too. Each process must end by itself: as
+without the fault, or with `fault 40`, `41`, `43` or `44` and status 3, or, where what fails is a word's
+own file, with its own refusal; where standard error itself failed nothing is told. The command given
+again then says what it must, its own text or the stored one, `verify` says ok, and stock and outbox are
+as after the command. The status is 1 where something differs; the folder is then kept.
 """
-import importlib.util
-import os
 import re
 import shutil
-import subprocess
 import sys
 import tempfile
 
-HERE = os.path.dirname(os.path.abspath(__file__))
+import memory
+from lib import option, preloaded, program_in
 
-
-def beside(name):
-    """A script of this folder, as a module."""
-    spec = importlib.util.spec_from_file_location(name, os.path.join(HERE, name + ".py"))
-    module = importlib.util.module_from_spec(spec)
-    sys.modules[name] = module
-    spec.loader.exec_module(module)
-    return module
-
-
-memory = beside("memory")
+RUN = {
+    "tier": "night",
+    "shows": "each read, write, sync and opening of each command fails in turn",
+    "needs": ["program", "gcc"],
+    "words": [""],
+    "minutes": 10,
+}
 SHIM = r"""
 #define _GNU_SOURCE
 #include <dlfcn.h>
@@ -86,11 +83,7 @@ TOLD = re.compile(rb"(fault 4[0134] \w+\n)?")
 
 def built(folder):
     """The library that counts and fails calls."""
-    source, library = os.path.join(folder, "faults.c"), os.path.join(folder, "faults.so")
-    with open(source, "w", encoding="utf-8") as file:
-        file.write(SHIM)
-    subprocess.run(["gcc", "-shared", "-fPIC", "-O1", "-D_FILE_OFFSET_BITS=32", "-o", library, source, "-ldl"], check=True)
-    return library
+    return preloaded(folder, SHIM, "-D_FILE_OFFSET_BITS=32")
 
 
 def tidy(house):
@@ -127,10 +120,8 @@ def swept(house, name, words, most):
 
 
 def main(words):
-    option = lambda name, default: words[words.index(name) + 1] if name in words else default
-    most, only = int(option("--most", 1_000_000)), option("--only", "")
-    last = words[-1] if words and (len(words) == 1 or not words[-2].startswith("--")) else None
-    program = os.path.abspath(last or os.path.join(HERE, "..", "crates", "whx12", "out", "whx12"))
+    most, only = option(words, "--most", 1_000_000), option(words, "--only", "")
+    program = program_in(words)
     with tempfile.TemporaryDirectory() as folder:
         house = memory.House(program, built(folder))
         try:

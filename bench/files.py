@@ -1,17 +1,21 @@
 #!/usr/bin/env python3
-"""Puts odd things where the program reads and writes files. Not part of the gate.
+"""Puts odd things where the program reads and writes files.
 
 Usage: bench/files.py [PROGRAM]     (default: crates/whx12/out/whx12, which `rt run` in that folder leaves)
 
-Each case has a folder of its own with a book of ZZ-WHSE1, in which ZZ-ACME is enrolled, and an inbox. The status is 1 where something is
-otherwise than said here:
+Each case has a folder of its own with a book of ZZ-WHSE1, in which ZZ-ACME is enrolled, and an inbox.
+The status is 1 where something is otherwise than said here:
 
-  - a symbolic link to the book and a hard link to a copy of it that stand where an answer, or the file that becomes it, is to be written: both
-    stay as they are, byte for byte, and the answer is there as a file of its own; a book that has two names itself isn't opened (44);
-  - what an earlier stop left is removed; a folder at an answer's name is fault 44, and taking again mends it;
-  - pipes, sockets, folders, links that lead nowhere, in a circle or to a folder, names that aren't UTF-8 and names that are too long are
-    passed over, and the interchanges beside them are taken; a link to a file is taken as that file;
-  - a file without an end, and one byte more than may be, as an interchange, a sheet, a list and a script; what just may be is taken;
+  - a symbolic link to the book and a hard link to a copy of it that stand where an answer, or the file
+    that becomes it, is to be written: both stay as they are, byte for byte, and the answer is there as a
+    file of its own; a book that has two names itself isn't opened (44);
+  - what an earlier stop left is removed; a folder at an answer's name is fault 44, and taking again
+    mends it;
+  - pipes, sockets, folders, links that lead nowhere, in a circle or to a folder, names that aren't UTF-8
+    and names that are too long are passed over, and the interchanges beside them are taken; a link to a
+    file is taken as that file;
+  - a file without an end, and one byte more than may be, as an interchange, a sheet, a list and a
+    script; what just may be is taken;
   - words that aren't UTF-8.
 
 A process has 20 seconds and 512 MiB.
@@ -24,7 +28,16 @@ import subprocess
 import sys
 import tempfile
 
-HERE = os.path.dirname(os.path.abspath(__file__))
+from lib import program_of, same
+
+RUN = {
+    "tier": "night",
+    "shows": "odd things where files are read and written: links, pipes, names, files without "
+             "an end",
+    "needs": ["program"],
+    "words": [""],
+    "minutes": 0.3,
+}
 AT = ["--at", "2025-03-04T09:15"]
 MEMORY = 512 << 20
 ADVICE = (b"ISA*00*          *00*          *ZZ*ACME           *ZZ*WHSE1          *250304*0915*U*00401*000000001*1*P*>~"
@@ -38,11 +51,6 @@ UNREADABLE, BAD_TEXT = (1, "", "refused 1 Unreadable\n"), (1, "", "refused 32 Ba
 TOO_MANY = (1, "", "refused 33 TooManyLines\n")
 LONG_SCRIPT, NO_TEXT = (2, "", "a script has at most 16,777,216 bytes\n"), (2, "", "a word isn't UTF-8 text\n")
 MOST, MOST_SCRIPT = 1_048_576, 16_777_216
-
-
-def same(what, got, wanted):
-    if got != wanted:
-        sys.exit(f"{what}: wanted {wanted!r:.300}, got {got!r:.300}")
 
 
 def limited():
@@ -198,7 +206,7 @@ def words(house):
 
 
 def main(argv):
-    program = os.path.abspath(argv[0] if argv else os.path.join(HERE, "..", "crates", "whx12", "out", "whx12"))
+    program = program_of(argv[0] if argv else None)
     cases = [links, left_over, odd_entries, limits, words]
     for case in cases:
         with tempfile.TemporaryDirectory(prefix="whx12-files-") as folder:

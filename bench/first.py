@@ -1,11 +1,14 @@
 #!/usr/bin/env python3
-"""Whether the first command of a newcomer says what it does meanwhile. Not part of the gate.
+"""Whether the first command of a newcomer says what it does meanwhile.
 
 Usage: bench/first.py [--minutes N] [--program PROGRAM]
 
-Runs examples/day/run.sh in a fresh clone of the last commit, where the program isn't built yet: on standard error it tells which crate is being proved and how many of how many are proved. That is said within a
-minute; the crates are those that the program stands on, and their count never falls. With --minutes it is stopped after so long, and else at its end, where the day's own lines are as printed.txt has them: after an hour on a new machine.
-Then it is run with a program that is built, PROGRAM where it is given: the program is found, nothing is proved, and the lines are the same.
+Runs examples/day/run.sh in a fresh clone of the last commit, where the program isn't built yet: on
+standard error it tells which crate is being proved and how many of how many are proved. That is said
+within a minute; the crates are those that the program stands on, and their count never falls. With
+--minutes it is stopped after so long, and else at its end, where the day's own lines are as printed.txt
+has them: after an hour on a new machine. Then it is run with a program that is built, PROGRAM where it
+is given: the program is found, nothing is proved, and the lines are the same.
 """
 import argparse
 import os
@@ -18,25 +21,17 @@ import tempfile
 import threading
 import time
 
-TOP = os.path.dirname(os.path.dirname(os.path.abspath(__file__)))
+from lib import TOP, below
+
+RUN = {
+    "tier": "night",
+    "shows": "a newcomer's first build says which crate is being proved and how many are; a "
+             "program that is built is found",
+    "needs": ["program", "rt"],
+    "words": ["--minutes 3"],
+    "minutes": 4,
+}
 PROVING = re.compile(r"proving (\w+); (\d+) of (\d+) crates are proved")
-
-
-def stood_on():
-    """The crates that the program stands on, itself among them."""
-    below = {}
-    with open(f"{TOP}/crates.txt", encoding="utf-8") as file:
-        for line in file:
-            name, colon, rest = line.split("#")[0].partition(":")
-            if colon:
-                below[name.strip()] = rest.split()
-    found, open_ones = set(), ["whx12"]
-    while open_ones:
-        name = open_ones.pop()
-        if name in below and name not in found:
-            found.add(name)
-            open_ones += below[name]
-    return found
 
 
 def run(clone, book, minutes):
@@ -55,7 +50,7 @@ def run(clone, book, minutes):
 
 def building(clone, book, minutes, wanted):
     """What is wrong with what is said while the program is proved and built."""
-    crates = stood_on()
+    crates = below("whx12")
     printed, told, status = run(clone, book, minutes)
     said = [(seconds, *PROVING.fullmatch(line).groups()) for seconds, line in told if PROVING.fullmatch(line)]
     counts = [int(proved) for _, _, proved, _ in said]

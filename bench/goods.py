@@ -1,30 +1,36 @@
 #!/usr/bin/env python3
-"""Plays random days with goods in stock through the program and through the second reading of the rules (bench/model.py), and compares what is
-printed, what is told on standard error and the exit status, byte for byte. compare.py does the same with days that hardly ever have goods. Not
-part of the gate.
+"""Plays random days with goods in stock through the program and through the second reading of the rules
+(bench/model.py), and compares what is printed, what is told on standard error and the exit status, byte
+for byte. compare.py does the same with days that hardly ever have goods.
 
 Usage: bench/goods.py [--days N] [--seed N] [--batch] [PROGRAM]
        (default: 300 days, crates/whx12/out/whx12, which `rt run` in that folder leaves; some 0.2 s a day)
        bench/goods.py --dry N [--seed N]
        (N days through the second reading alone: prints how often they made what, by name; some 0.06 s a day)
 
-A day is played by `script`, over a book in memory; with --batch by `init` and then `batch`, over a book in a file, and `verify` must say ok
-after it. It has 25 to 105 commands of four depositors and a stranger. Two of the four have one id and two qualifiers, one is the warehouse.
-There are
+A day is played by `script`, over a book in memory; with --batch by `init` and then `batch`, over a book
+in a file, and `verify` must say ok after it. It has 25 to 105 commands of four depositors and a
+stranger. Two of the four have one id and two qualifiers, one is the warehouse. There are
 
-  - advices of few items and lots, so that dates, counts and bytes of lots have to decide which goes out first; pairs that stand twice,
-    other dates than before, wrong sums, more parties, references and dates than may be, sets that end too early, groups without GS01;
-  - counts of what an advice has, picks of what an order has reserved, recounts of what is on hand: of all of it or a part, some of them with a
-    piece more or less;
-  - acts told again in another form: lines in another order, zeros in front, quotes, a byte order mark, other line ends; and under another ticket;
-  - sheets with fields in quotes, commas and line ends in fields, quotes in a wrong place, lines that can't be read or stand twice. The second
-    reading knows no quotes and no byte order mark: it is given the records that Python's csv reads;
-  - acknowledgments of documents that went out, several of one, with as many segments as may be and one more;
-  - in one day of fifteen an advice of 100 to 1,000 lines (999 are the most), its count, an order of as many items and its pick;
+  - advices of few items and lots, so that dates, counts and bytes of lots have to decide which goes out
+    first; pairs that stand twice, other dates than before, wrong sums, more parties, references and
+    dates than may be, sets that end too early, groups without GS01;
+  - counts of what an advice has, picks of what an order has reserved, recounts of what is on hand: of
+    all of it or a part, some of them with a piece more or less;
+  - acts told again in another form: lines in another order, zeros in front, quotes, a byte order mark,
+    other line ends; and under another ticket;
+  - sheets with fields in quotes, commas and line ends in fields, quotes in a wrong place, lines that
+    can't be read or stand twice. The second reading knows no quotes and no byte order mark: it is given
+    the records that Python's csv reads;
+  - acknowledgments of documents that went out, several of one, with as many segments as may be and one
+    more;
+  - in one day of fifteen an advice of 100 to 1,000 lines (999 are the most), its count, an order of as
+    many items and its pick;
   - ids, items, lots, numbers and tickets as long as may be, and moments at the ends of months and years.
 
-The table of --dry has what came of each command, the events, what they have that is rare elsewhere, and the segments in error: `943 N9 8, element
-4 7` is a 943 with N9 in AK301 and 8 in AK304, 4 in AK401 and 7 in AK403.
+The table of --dry has what came of each command, the events, what they have that is rare elsewhere, and
+the segments in error: `943 N9 8, element 4 7` is a 943 with N9 in AK301 and 8 in AK304, 4 in AK401 and 7
+in AK403.
 
 The first day that differs is kept in a folder, whose name is printed, and the status is then 1.
 """
@@ -37,11 +43,18 @@ import shutil
 import sys
 import tempfile
 
-HERE = os.path.dirname(os.path.abspath(__file__))
-sys.path.insert(0, HERE)
-import compare  # noqa: E402
-import model  # noqa: E402
+import compare
+import model
+from lib import option, program_in
 
+RUN = {
+    "tier": "night",
+    "shows": "the same as compare.py, of days with goods in stock: lots, counts, picks, "
+             "recounts, repeats in another form, sets of 999 lines",
+    "needs": ["program"],
+    "words": ["--days 200", "--days 20 --batch"],
+    "minutes": 4,
+}
 # the last isn't enrolled
 WHO = [(b"ZZ", b"ACME"), (b"01", b"ACME"), (b"ZZ", b"A.B-C.D-E.F-G12"), (b"ZZ", b"WHSE1"), (b"Z9", b"AB")]
 ENROLLED, BUSY = WHO[:4], WHO[:3]
@@ -588,18 +601,12 @@ def play_all(program, days, seed, is_batch):
     return 0
 
 
-def option(words, name, default):
-    """The number after a word."""
-    return int(words[words.index(name) + 1]) if name in words else default
-
-
 def main(words):
     seed = option(words, "--seed", 1)
     if "--dry" in words:
         show(option(words, "--dry", 0), seed)
         return 0
-    last = words[-1] if words and not words[-1].isdigit() and not words[-1].startswith("--") else None
-    program = os.path.abspath(last or os.path.join(HERE, "..", "crates", "whx12", "out", "whx12"))
+    program = program_in(words)
     return play_all(program, option(words, "--days", 300), seed, "--batch" in words)
 
 

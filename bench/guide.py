@@ -1,24 +1,25 @@
 #!/usr/bin/env python3
-"""Plays the examples of docs/PROFILE.md and docs/OPERATIONS.md over new books, and compares what comes with what stands there. Not part of the gate.
+"""Plays the examples of docs/PROFILE.md and docs/OPERATIONS.md over new books, and compares what comes with what stands there. Not part of CI.
 
 Usage: bench/guide.py [--program PROGRAM] [--page PAGE ..]     (default: crates/whx12/out/whx12 of this repository, and the two pages)
 
-Nothing of the pages is repeated here. A comment says what is done before a block of X12:
+Nothing of the pages is repeated here. A comment before a block of X12 says what is done:
     <!-- run: WORDS -->      the command is given, and nothing is compared
     <!-- sent MOMENT -->     the block is sent at this moment, with LF after each segment, as it stands there
     <!-- answered -->        the block is the answer to what was sent last; no such block: the answer is empty
     <!-- printed: WORDS -->  the block is what the command prints
 Answers and documents have no LF between segments; the page has, so they are compared without. Each block of X12 has to be one of these.
 
-A table whose first column is a code, or `Sent`, has its tries after it, one in a line:
-    <!-- tries [OUTCOME]
-    ROW: [later|again] SET: OLD -> NEW[; OLD -> NEW ..]
+A table whose first column is a code, or `Sent`, has its tries in bench/guide.cases, one in a line, under a heading:
+    [PAGE: TABLE] [OUTCOME]
+    ROW: [later|again] SET[: OLD -> NEW[; all OLD -> NEW ..]][ => WORDS: TEXT]
     ROW: bench/SCRIPT.py     this other script tries it
-    -->
-ROW is how the row's first cell begins. The page's first example of SET is changed so, each OLD in one place (<LF>, <NOTHING> and the like stand for
-what can't be seen), and sent to a book that has nothing but the depositor; `again`: after the example itself; `later`: under a new ISA13, to the book
-that the page's blocks have left. SE01 is counted anew where no change names SE. What comes has to have the codes that the row says, or OUTCOME, which is
-a note or the name of a refusal. Each row has to be tried.
+TABLE is the head of the table's first column, followed by 1, 2, .. where the page has several such tables. ROW is how the row's first cell begins.
+The page's first example of SET is changed, and sent to a book that has nothing but the depositor; `again`: after the example itself; `later`: under a
+new ISA13, to the book that the page's blocks have left. Each OLD stands in one place; `all`: in any number of places. <LF>, <NOTHING> and the like
+stand for what can't be seen. SE01 is counted anew where no change names SE. The answer must have the codes of the row, or OUTCOME, which is a note or
+the name of a refusal. After `=>`: then this command must print TEXT somewhere, with one blank for each run of blanks. Each row must be tried. A table
+without its heading is a difference, and so is a heading without its table. bench/newcomer.py reads the tries of the tables `Printed` there.
 
 The tables of elements of 943, 940 and 997 are tried too. A set is made of a table, with each segment once. Then each element is given at its longest,
 longer, shorter, empty, with a wrong character, with another code, with 0 and as no date; each segment is given as often as it may come, once more, not
@@ -37,13 +38,24 @@ import subprocess
 import sys
 import tempfile
 
-TOP = os.path.dirname(os.path.dirname(os.path.abspath(__file__)))
+from lib import PROGRAM, TOP
+
+RUN = {
+    "tier": "night",
+    "shows": "each example of docs/PROFILE.md is answered as it says, and each row of its tables of codes and elements holds",
+    "needs": ["program"],
+    "words": [""],
+    "minutes": 0.2,
+}
 PAGES = ["docs/PROFILE.md", "docs/OPERATIONS.md"]
 DAY = os.path.join(TOP, "examples", "day")
 STEP = re.compile(r"^<!-- (run|sent|answered|printed):?([^\n]*?)-->\n(?:```x12\n(.*?)^```$)?", re.M | re.S)
-TABLE = re.compile(r"^(\|[^\n]*\n)\|[-|]+\n((?:\|[^\n]*\n)+)(?:\n<!-- tries ?(\w*)\n(.*?)^-->$)?", re.M | re.S)
+TABLE = re.compile(r"^(\|[^\n]*\n)\|[-|]+\n((?:\|[^\n]*\n)+)", re.M)
 TRIED = ("TA105", "AK905", "AK502", "AK304", "AK403", "AK403 7 at", "Sent")
-ODD = {"<BOM>": "\ufeff", "<TAB>": "\t", "<LF>": "\n", "<BLANK>": " ", "<NOTHING>": ""}
+PRINTED = "Printed"
+CASES = os.path.join("bench", "guide.cases")
+HEADING = re.compile(r"\[([^:\]]+): ([^\]]+)\](?: (\w+))?")
+ODD = {"<BOM>": "\ufeff", "<TAB>": "\t", "<LF>": "\n", "<CR>": "\r", "<BLANK>": " ", "<NOTHING>": ""}
 
 
 class Book:
@@ -98,6 +110,35 @@ def cells(line):
     return [cell.strip().replace("`", "") for cell in line.strip().strip("|").split("|")]
 
 
+def read_cases(top):
+    """The sections of guide.cases in this clone: of each page's name and table, the outcome and the lines."""
+    with open(os.path.join(top, CASES), encoding="utf-8") as file:
+        lines = file.read().splitlines()
+    sections, tries = {}, None
+    for line in lines:
+        if heading := HEADING.fullmatch(line):
+            page, table, outcome = heading.groups()
+            key, tries = (os.path.basename(page), table), []
+            if key in sections:
+                sys.exit(f"{CASES} has {line} twice")
+            sections[key] = outcome or "", tries
+        elif line and not line.startswith("#"):
+            if tries is None:
+                sys.exit(f"{CASES}: no heading before {line}")
+            tries.append(line)
+    return sections
+
+
+def table_names(heads):
+    """The tables' names in guide.cases: the heads of their first columns, with 1, 2, .. where several have the same."""
+    return [head if heads.count(head) == 1 else f"{head} {heads[:at + 1].count(head)}" for at, head in enumerate(heads)]
+
+
+def is_kind(table, kinds):
+    """Whether a name of guide.cases is that of a table of these kinds."""
+    return table in kinds or re.sub(r" \d+$", "", table) in kinds
+
+
 def wanted(head, row, outcome):
     """What the answer, and what is told, must match where a row is tried."""
     if head[0] == "TA105" or outcome.isdigit():
@@ -120,6 +161,8 @@ def wanted(head, row, outcome):
     told = row[1]
     if told.startswith("nothing"):
         return [r"^\n$"]
+    if told.startswith("AK5*A"):
+        return [r"~AK2\*\d{3}\*0001~AK5\*A~"]
     segment = re.search(r"\b(?:at|of) (?:the )?(?:next |later )?([A-Z][A-Z0-9]{1,2})\b", told)
     found = [rf"AK3\*{segment.group(1) if segment else '[A-Z0-9]+'}\*\d+\*\*{re.search('AK304 (.)', told).group(1)}~"]
     if code := re.search(r"AK403 (\d)", told):
@@ -130,9 +173,12 @@ def wanted(head, row, outcome):
 def changed(text, changes):
     """An example with some changes, and SE01 counted anew where none of them names SE."""
     for change in filter(None, changes.split("; ")):
-        old, new = change.split(" -> ")
+        old, new = change.removeprefix("all ").split(" -> ")
         for name, odd in ODD.items():
             old, new = old.replace(name, odd), new.replace(name, odd)
+        if change.startswith("all "):
+            text = text.replace(old, new)
+            continue
         # Of two sets the first one is changed.
         if text.count(old) != 1 and not (text.count(old) == 2 and text.count("~ST*") == 2):
             sys.exit(f"{old} stands in {text.count(old)} places")
@@ -148,7 +194,7 @@ def changed(text, changes):
     return "~".join(segments)
 
 
-def try_tables(text, fresh, later):
+def try_tables(page, text, fresh, later, sections):
     """The tries of a page's tables: how many, and how many differ."""
     examples = {}
     for kind, _, block in STEP.findall(text):
@@ -156,31 +202,41 @@ def try_tables(text, fresh, later):
             for name in re.findall(r"^ST\*(\d+)", block, re.M):
                 examples.setdefault(name, block.replace("\n", ""))
     asked, differ = [], 0
-    for head, rows, outcome, tries in TABLE.findall(text):
-        head, rows = cells(head), [cells(row) for row in rows.splitlines()]
+    found = [(cells(head), [cells(row) for row in rows.splitlines()]) for head, rows in TABLE.findall(text)]
+    names = table_names([head[0] for head, _ in found])
+    for table in [table for name, table in sections if name == page and table not in names and not is_kind(table, [PRINTED])]:
+        print(f"{page} has no table {table}")
+        differ += 1
+    for table, (head, rows) in zip(names, found):
         if head[0] not in TRIED:
             continue
+        if (page, table) not in sections:
+            print(f"{CASES} has no section {page}: {table}")
+            differ += 1
+            continue
+        outcome, tries = sections[page, table]
         left = [row[0] for row in rows]
-        for line in tries.splitlines():
+        for line in tries:
             key, _, rest = line.partition(": ")
             row = next((row for row in rows if row[0].startswith(key)), None)
             if row is None:
-                sys.exit(f"no row begins {key}")
+                sys.exit(f"{page}: {table}: no row begins {key}")
             if row[0] in left:
                 left.remove(row[0])
             if re.fullmatch(r"bench/\w+\.py", rest):
                 if not os.path.exists(os.path.join(TOP, rest)):
                     sys.exit(f"no {rest}")
                 continue
+            rest, _, then = rest.partition(" => ")
             how, name, changes = re.fullmatch(r"(?:(later|again) )?(\d{3})(?:: (.*))?", rest).groups()
             sent = changed(examples[name], changes or "")
             if how == "later":
                 number = examples[name].split("*")[13]
                 sent = sent.replace(f"*{number}*", "*000000999*").replace(f"IEA*1*{number}", "IEA*1*000000999")
             book = (later if how == "later" else fresh).copy(len(asked))
-            asked.append((line, row, wanted(head, row, outcome), book, examples[name] if how == "again" else "", sent))
+            asked.append((line, row, wanted(head, row, outcome), book, examples[name] if how == "again" else "", sent, then))
         for key in left:
-            print(f"not tried: {head[0]}: {key}")
+            print(f"not tried: {table}: {key}")
             differ += 1
     with concurrent.futures.ThreadPoolExecutor(os.cpu_count()) as pool:
         return len(asked), differ + sum(pool.map(is_otherwise, asked))
@@ -188,13 +244,18 @@ def try_tables(text, fresh, later):
 
 def is_otherwise(asked):
     """Whether a try gives something else than its row says."""
-    line, row, patterns, book, before, sent = asked
+    line, row, patterns, book, before, sent, then = asked
     if before:
         book.send(before, "2026-03-05T09:00")
     answer, told = book.send(sent, "2026-03-05T09:10")
     # Where there is no answer, what is told on standard error.
     got = answer + "\n" + (told if not answer else "")
     bad = [pattern for pattern in patterns if not re.search(pattern, got)]
+    if then:
+        words, _, text = then.partition(": ")
+        printed = " ".join(book.give(words.split())[0].split())
+        if text not in printed:
+            bad, got = [*bad, text], f"{got}\n  {printed}"
     if bad:
         print(f"{' | '.join(row)}\n  {line}\n  {bad}\n  {got.strip()}", flush=True)
     return bool(bad)
@@ -204,7 +265,8 @@ class Row:
     """An element of a table."""
 
     def __init__(self, row):
-        name, _, _, self.kind, lengths, self.mark, what = row
+        name, _, attributes, what = row
+        self.mark, self.kind, lengths = attributes.split()
         self.segment, self.place = re.match(r"(\w+?)(\d\d)\b", name).groups()
         self.least, self.most = map(int, lengths.split("/"))
         # The codes that are named, as `F`; an entity code of an address is one of many.
@@ -235,7 +297,7 @@ class Row:
 
 def variants(name, layout, rows):
     """Sets of a kind, as lists of segments without ST and SE, and what is told of each: place in the set, segment, AK304, element and AK403."""
-    parts, often = [], []
+    parts = []
     for row in rows:
         first, last = re.match(r"(\d\d)(?: to .*(\d\d))?", re.sub(r"^[A-Z]+\d*?(?=\d\d\b)", "", row[0])).groups()
         one = Row(row)
@@ -293,9 +355,9 @@ def in_a_group(name, group, number, made):
 def try_elements(text, fresh, later):
     """The tries of the elements of each set: how many, and how many differ."""
     given = differ = 0
-    tables = [(cells(head), [[cell.strip() for cell in row.strip().strip("|").split("|")] for row in rows.splitlines()]) for head, rows, _, _ in TABLE.findall(text)]
+    tables = [(cells(head), [[cell.strip() for cell in row.strip().strip("|").split("|")] for row in rows.splitlines()]) for head, rows in TABLE.findall(text)]
     layouts = [rows for head, rows in tables if head[0] == "Segment"]
-    elements = [rows for head, rows in tables if head[:5] == ["Element", "Ref", "Name", "Type", "Length"] and rows[0][0] != "ISA01"]
+    elements = [rows for head, rows in tables if head[:3] == ["Element", "Ref and name", "Attributes"] and rows[0][0] != "ISA01"]
     for name, group, layout, rows in zip(("943", "940", "997"), ("AR", "OW", "FA"), layouts, elements):
         made = list(variants(name, layout, rows))
         given += len(made)
@@ -331,11 +393,11 @@ def try_written(text):
     """The examples of what the house writes, beside the tables above them: how many elements, and how many have no row or another length."""
     given = differ = 0
     for part in re.split(r"^###? ", text, flags=re.M):
-        heads = [(cells(head), rows) for head, rows, _, _ in TABLE.findall(part)]
+        heads = [(cells(head), rows) for head, rows in TABLE.findall(part)]
         rows = {}
-        for row in [cells(row) for head, rows_ in heads if head[:4] == ["Element", "Ref", "Name", "Length"] for row in rows_.splitlines()]:
+        for row in [cells(row) for head, rows_ in heads if head[:3] == ["Element", "Ref and name", "Length"] for row in rows_.splitlines()]:
             segment, place = re.match(r"(\w+?)(\d\d)\b", row[0]).groups()
-            least, _, most = row[3].partition("/")
+            least, _, most = row[2].partition("/")
             rows[segment, int(place)] = (int(least), int(most or least)) if least else (0, 0)
         if not rows:
             continue
@@ -354,10 +416,14 @@ def try_written(text):
 
 def main():
     parser = argparse.ArgumentParser()
-    parser.add_argument("--program", default=os.path.join(TOP, "crates", "whx12", "out", "whx12"))
+    parser.add_argument("--program", default=PROGRAM)
     parser.add_argument("--page", nargs="+", default=[os.path.join(TOP, page) for page in PAGES])
     asked = parser.parse_args()
-    bad = 0
+    sections = read_cases(TOP)
+    strange = [f"{page}: {table}" for page, table in sections if page not in map(os.path.basename, PAGES) and not is_kind(table, [PRINTED])]
+    for name in strange:
+        print(f"{CASES} has a section of another page: {name}")
+    bad = len(strange)
     for page in asked.page:
         with open(page, encoding="utf-8") as file:
             text = file.read()
@@ -369,7 +435,7 @@ def main():
             blocks, played, differ = play(text, book)
             elements, other = try_elements(text, fresh, book)
             written, off = try_written(text)
-            tries, wrong = try_tables(text, fresh, book)
+            tries, wrong = try_tables(os.path.basename(page), text, fresh, book, sections)
         print(f"{os.path.basename(page)}: {played} of {blocks} blocks played, {differ} otherwise than the page has them; "
               f"{tries} tries of its tables, {wrong} otherwise; {elements} of the elements that are read, {other} otherwise; "
               f"{written} of those that are written, {off} otherwise")

@@ -1,26 +1,33 @@
 #!/usr/bin/env python3
-"""Hands in interchanges that are cut short, changed in a byte or as large as may be. Not part of the gate.
+"""Hands in interchanges that are cut short, changed in a byte or as large as may be.
 
 Usage: bench/hostile.py [PROGRAM]     (default: crates/whx12/out/whx12, which `rt run` in that folder leaves)
 
-Each case is a script over a new book in memory: ZZ-ACME is enrolled, what came before is handed in, and then the case. What is printed, told
-and the exit status are compared with the second reading of the rules (bench/model.py), and, where a line below says what must come, with that
-too. The status is 1 where something differs.
+Each case is a script over a new book in memory: ZZ-ACME is enrolled, what came before is handed in, and
+then the case. What is printed, told and the exit status are compared with the second reading of the
+rules (bench/model.py), and, where a line below says what must come, with that too. The status is 1 where
+something differs.
 
-  - every beginning but the whole of an advice (255 bytes), an order (237) and an acknowledgment (233), each in the state before it;
-  - each byte of the advice replaced by each of 00, 0A, 20, 2A, 2D, 30, 5A, 7E, 7F and FF, and single changes with their notes;
+  - every beginning but the whole of an advice (255 bytes), an order (237) and an acknowledgment (233),
+    each in the state before it;
+  - each byte of the advice replaced by each of 00, 0A, 20, 2A, 2D, 30, 5A, 7E, 7F and FF, and single
+    changes with their notes;
   - the advice followed by line ends up to 1,048,576 bytes, and by one more;
-  - 100 groups and 101, 1,000 sets and 1,001.
-"""
-import os
+  - 100 groups and 101, 1,000 sets and 1,001."""
 import subprocess
 import sys
 import tempfile
 
-HERE = os.path.dirname(os.path.abspath(__file__))
-sys.path.insert(0, HERE)
-import model  # noqa: E402
+import model
+from lib import program_of
 
+RUN = {
+    "tier": "night",
+    "shows": "interchanges cut short, changed in each byte, as large as may be",
+    "needs": ["program"],
+    "words": [""],
+    "minutes": 0.3,
+}
 AT = "2025-03-04T09:15"
 HEAD = (b"ISA*00*          *00*          *ZZ*ACME           *ZZ*WHSE1          *250304*0915*U*00401*%09d*%d*P*>~"
         b"GS*%s*ACME*WHSE1*20250304*0915*%d*X*004010~")
@@ -92,7 +99,7 @@ def cases():
 
 
 def main():
-    program = os.path.abspath(sys.argv[1] if len(sys.argv) > 1 else os.path.join(HERE, "..", "crates", "whx12", "out", "whx12"))
+    program = program_of(sys.argv[1] if len(sys.argv) > 1 else None)
     count = wrong = 0
     for name, before, raw, what in cases():
         got, said = play(program, before, raw)

@@ -1,25 +1,27 @@
 #!/usr/bin/env python3
-"""Kills a serving process again and again over one book, and looks at what is left. Not part of the gate.
+"""Kills a serving process again and again over one book, and looks at what is left.
 
-Usage: bench/kill.py [--rounds N] [--seed N] [PROGRAM]     (default: 200 rounds of crates/whx12/out/whx12, which `rt run` in that folder leaves)
+Usage: bench/kill.py [--rounds N] [--seed N] [PROGRAM]
+       (default: 200 rounds of crates/whx12/out/whx12, which `rt run` in that folder leaves)
 
-A round serves the book of ZZ-WHSE1, posts up to four interchanges of two depositors, and ends the process by `kill -9`: between
-two requests, while a request is being sent, or while its response is awaited. Then the book is opened again, by the next server
-or by other commands, and what it shows is compared with the second reading of the rules (bench/model.py):
+A round serves the book of ZZ-WHSE1, posts up to four interchanges of two depositors, and ends the
+process by `kill -9`: between two requests, while a request is being sent, or while its response is
+awaited. Then the book is opened again, by the next server or by other commands, and what it shows is
+compared with the second reading of the rules (bench/model.py):
 
   - every interchange that was answered is there: the same bytes get the stored answer, byte for byte;
   - stock and outbox are those of the interchanges that were answered, or those and the one under way;
   - what the program prints from there on goes on from that state: answers, numbers, balances.
 
-Between servers clerks count, pick and recount; half of these commands are killed while they run, and given again: the document is
-made once, whether the kill came before it or after it. For every ten rounds a new book's `init` is killed, given again, and enrols
-a depositor. Debian's sqlite3 (apt-get install sqlite3) says in each round, of a copy of the files
-as the kill left them, whether they are sound and how many entries they hold, and `verify` does so of another copy; at the end so of
-the closed book, whose stock rows are compared too. The folder of a run that fails is kept, and the status is then 1.
+Between servers clerks count, pick and recount; half of these commands are killed while they run, and
+given again: the document is made once, whether the kill came before it or after it. For every ten rounds
+a new book's `init` is killed, given again, and enrols a depositor. Debian's sqlite3 (apt-get install
+sqlite3) says in each round, of a copy of the files as the kill left them, whether they are sound and how
+many entries they hold, and `verify` does so of another copy; at the end so of the closed book, whose
+stock rows are compared too. The folder of a run that fails is kept, and the status is then 1.
 """
 import copy
 import os
-import random
 import re
 import shutil
 import signal
@@ -29,23 +31,21 @@ import sys
 import tempfile
 import time
 
-HERE = os.path.dirname(os.path.abspath(__file__))
-sys.path.insert(0, HERE)
-import compare  # noqa: E402
-import model  # noqa: E402
-import tables  # noqa: E402
+import compare
+import model
+import tables
+from lib import Wrong, option, program_in, same
 
+RUN = {
+    "tier": "night",
+    "shows": "a server killed again and again loses nothing that it answered; clerks' commands "
+             "and `init` killed while they run",
+    "needs": ["program", "sqlite3"],
+    "words": ["--rounds 200"],
+    "minutes": 1,
+}
 WHO = [b"ZZ-ACME", b"ZZ-BETA"]
 compare.NUMBERS = [b"N%d" % n for n in range(1, 400)]
-
-
-class Wrong(Exception):
-    """What was found isn't what the rules give."""
-
-
-def same(what, got, wanted):
-    if got != wanted:
-        raise Wrong(f"{what}: wanted {wanted!r}, got {got!r}")
 
 
 class Server:
@@ -314,10 +314,8 @@ class Run:
 
 
 def main(words):
-    option = lambda name, default: int(words[words.index(name) + 1]) if name in words else default
-    rounds, seed = option("--rounds", 200), option("--seed", 1)
-    last = words[-1] if words and not words[-1].isdigit() and not words[-1].startswith("--") else None
-    program = os.path.abspath(last or os.path.join(HERE, "..", "crates", "whx12", "out", "whx12"))
+    rounds, seed = option(words, "--rounds", 200), option(words, "--seed", 1)
+    program = program_in(words)
     folder = tempfile.mkdtemp(prefix="killed")
     try:
         run = Run(program, seed, folder)

@@ -1,13 +1,16 @@
 #!/usr/bin/env python3
-"""Proves the libraries of the repository side by side, so that `rt check` in a crate finds those below it. Not part of the gate.
+"""Proves the libraries of the repository side by side, so that `rt check` in a crate finds those below it.
 
-Usage: bench/libraries.py [--jobs 4] [--top FOLDER] [NAME..]     (default: all libraries of this repository, by four jobs)
+Usage: bench/libraries.py [--jobs 4] [--top FOLDER] [NAME..]
+       (default: all libraries of this repository, by four jobs)
 
-Two calls of `rt lib` that stand on one crate wait for each other, and `rt all check` reads every crate once before it proves the first. This
-proves each library as soon as those below it are proved, those with the longest way above them first, all in one process of `rt`'s own
-library. What is proved stays in crates/NAME/out, where `rt check`, `rt plant` and bench/edits.py look for it; it counts in another clone too, if
-crates/NAME/out/rlib and incremental are copied there (`cp -a`) beside the same sources. `rt ci` takes none of it. The status is 1 where a
-library isn't proved; what `rt` said of each stands in out/library.log of its crate.
+Two calls of `rt lib` that stand on one crate wait for each other, and `rt all check` reads every crate
+once before it proves the first. This proves each library as soon as those below it are proved, those
+with the longest way above them first, all in one process of `rt`'s own library. What is proved stays in
+crates/NAME/out, where `rt check`, `rt plant` and bench/edits.py look for it; it counts in another clone
+too, if crates/NAME/out/rlib and incremental are copied there (`cp -a`) beside the same sources. `rt ci`
+takes none of it. The status is 1 where a library isn't proved; what `rt` said of each stands in
+out/library.log of its crate.
 """
 import importlib.machinery
 import importlib.util
@@ -16,7 +19,15 @@ import sys
 import time
 from concurrent.futures import FIRST_COMPLETED, ThreadPoolExecutor, wait
 
-HERE = os.path.dirname(os.path.abspath(__file__))
+from lib import HERE, option
+
+RUN = {
+    "tier": "by hand",
+    "shows": "a helper: proves the libraries side by side, so that `rt check`, `rt plant` and "
+             "edits.py can use them",
+    "needs": ["rt"],
+    "minutes": 40,
+}
 KIT = "/opt/rattle/bin"
 
 
@@ -56,18 +67,9 @@ def prove(crate, jobs):
     return crate.name, status == 0
 
 
-def option(words, name, default):
-    if name not in words:
-        return default
-    at = words.index(name)
-    value = words[at + 1]
-    del words[at : at + 2]
-    return value
-
-
 def main():
     words = sys.argv[1:]
-    lanes = int(option(words, "--jobs", "4"))
+    lanes = option(words, "--jobs", 4)
     os.chdir(option(words, "--top", os.path.dirname(HERE)))
     rtlib = library_of_rt()
     # (its first call sets a signal's handler, which only the main thread may)

@@ -1,21 +1,24 @@
 #!/usr/bin/env python3
-"""Measures sets of many lines: what a line costs in a set of 999 beside one of 99. Not part of the gate.
+"""Measures sets of many lines: what a line costs in a set of 999 beside one of 99.
 
-Usage: bench/lines.py [--larger] [PROGRAM]   (default: crates/whx12/out/whx12, which `rt run` in that folder leaves)
+Usage: bench/lines.py [--larger] [PROGRAM]
+       (default: crates/whx12/out/whx12, which `rt run` in that folder leaves)
 
-A cost that grows with the square of the lines would show as ten times the time a line. Each command is given to a book of its own, once in
-memory by `script` and once over a book in a file, and its time is that of the run less that of a run without it: in memory the script before
-it, in a file an opening, one query and a closing (`outbox` of a stranger). Processor time, since other work on the machine changes it less; of
-several runs the least counts, and the greatest memory.
+A cost that grows with the square of the lines would show as ten times the time a line. Each command is
+given to a book of its own, once in memory by `script` and once over a book in a file, and its time is
+that of the run less that of a run without it: in memory the script before it, in a file an opening, one
+query and a closing (`outbox` of a stranger). Processor time, since other work on the machine changes it
+less; of several runs the least counts, and the greatest memory.
 
   one item      an advice of so many lots of one item, and a count of it
   many items    an advice of so many items of one lot each, and a count of it
   order N x M   an order of N lines, each for all of M lots, which hold one each: N times M lots are reserved
   1 MiB         an interchange as large as may be, of advices of 99 and of 999 lines
 
-The lots of an order come into a book in memory by counts of 999 lines, each of which is replayed for the order as for every command there; into
-a book in a file they are written as rows by sqlite3, beside a register that says nothing of them (`verify` would tell). --larger measures orders over
-more lots too, in a file.
+The lots of an order come into a book in memory by counts of 999 lines, each of which is replayed for the
+order as for every command there; into a book in a file they are written as rows by sqlite3, beside a
+register that says nothing of them (`verify` would tell). --larger measures orders over more lots too, in
+a file.
 """
 import os
 import resource
@@ -26,10 +29,17 @@ import sys
 import tempfile
 import time
 
-HERE = os.path.dirname(os.path.abspath(__file__))
-sys.path.insert(0, HERE)
-import pages  # noqa: E402
+import lib
+import pages
+from lib import figure, program_of
 
+RUN = {
+    "tier": "figures",
+    "shows": "what a line costs in sets of 999 lines beside sets of 99",
+    "needs": ["program"],
+    "words": [""],
+    "minutes": 5,
+}
 AT = ["--at", "2025-03-04T09:15"]
 MOST_BYTES = 1_048_576
 FEW, MANY = 99, 999
@@ -39,7 +49,7 @@ LARGER = [(999, 99), (99, 999), (999, 999)]
 
 def envelope(control, function, sets):
     """An interchange of these sets."""
-    return pages.interchange(control, sets).replace("GS*AR*", f"GS*{function}*", 1)
+    return lib.interchange(function, control, *sets)
 
 
 def item(n):
@@ -169,9 +179,14 @@ def measure_lines(runs, how, place, begin):
             runs.write("sheet.csv", "".join(f"{item},{lot},1\n" for item, lot in pairs))
             send = ["send", "advice.x12"]
             begin()
-            told(place, f"{name}, advice", lines, how(9, [], send, "~AK9*A*1*1*1~"))
+            advised = how(9, [], send, "~AK9*A*1*1*1~")
+            told(place, f"{name}, advice", lines, advised)
             begin()
-            told(place, f"{name}, count", lines, how(9, [send], ["count", "ZZ-ACME", "T1", "SHP1", "sheet.csv"], f"W14*{lines}*{lines}~"))
+            counted = how(9, [send], ["count", "ZZ-ACME", "T1", "SHP1", "sheet.csv"], f"W14*{lines}*{lines}~")
+            told(place, f"{name}, count", lines, counted)
+            if name == "many items":
+                figure(f"line of an advice of {lines} lines, {place}", 1e6 * advised[0] / lines, "us")
+                figure(f"line of a count of {lines} lines, {place}", 1e6 * counted[0] / lines, "us")
 
 
 def measure_largest(runs, how, place, begin):
@@ -217,13 +232,17 @@ def measure_orders(runs, sizes, in_memory):
                 sys.exit(f"{reserved} lots reserved, not {lines * lots}")
         told("memory" if in_memory else "file", f"order {lines} x {lots}", lines, found)
         print(f"{'':7} {1e6 * found[0] / (lines * lots):.2f} us a lot", flush=True)
+        if not in_memory:
+            figure(f"order of {lines} lines of {lots} lots", found[0], "s")
+            figure(f"peak memory, order of {lines} lines of {lots} lots", found[2], "MiB")
 
 
 def main(words):
     larger = "--larger" in words
     words = [word for word in words if word != "--larger"]
-    program = os.path.abspath(words[0] if words else os.path.join(HERE, "..", "crates", "whx12", "out", "whx12"))
+    program = program_of(words[0] if words else None)
     print(f"load {os.getloadavg()[0]:.1f}; processor time, least of several runs")
+    figure("load", os.getloadavg()[0], "running")
     with tempfile.TemporaryDirectory(prefix="whx12-lines-") as folder:
         runs = Runs(program, folder)
         for how, place, begin in ((runs.in_memory, "memory", lambda: None), (runs.in_file, "file", runs.house)):

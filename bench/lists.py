@@ -1,10 +1,14 @@
 #!/usr/bin/env python3
-"""Measures what a server takes to list who is enrolled and what a depositor has open, by the entries of the book. Not part of the gate.
+"""Measures what a server takes to list who is enrolled and what a depositor has open, by the entries of the
+book.
 
-Usage: bench/lists.py [--largest N] [PROGRAM]     (default: up to 100,000 entries, crates/whx12/out/whx12, which `rt run` in that folder leaves)
+Usage: bench/lists.py [--largest N] [PROGRAM]
+       (default: up to 100,000 entries, crates/whx12/out/whx12, which `rt run` in that folder
+        leaves)
 
-Registers of one depositor and of 100 are written without the program (register.py); each is served over loopback with --clerks, and each list is asked for fifty times, a connection each.
-The least times are printed. The list of depositors must name each of them, in the order in which they were enrolled.
+Registers of one depositor and of 100 are written without the program (register.py); each is served over
+loopback with --clerks, and each list is asked for fifty times, a connection each. The least times are
+printed. The list of depositors must name each of them, in the order in which they were enrolled.
 """
 import os
 import socket
@@ -13,11 +17,18 @@ import sys
 import tempfile
 import time
 
-HERE = os.path.dirname(os.path.abspath(__file__))
-sys.path.insert(0, HERE)
-import books  # noqa: E402
-import register  # noqa: E402
+import books
+import register
+from lib import HERE, figure
 
+RUN = {
+    "tier": "figures",
+    "shows": "what a server takes to list who is enrolled and what is open, by the entries of "
+             "the book",
+    "needs": ["program"],
+    "words": ["--largest 100000"],
+    "minutes": 1,
+}
 TIMES = 50
 
 
@@ -53,6 +64,8 @@ def measure(program, folder, depositors, entries):
         finally:
             server.kill()
     print(f"{entries:7} entries of {depositors:3}: depositors {listing:6.2f} ms, open {looking:6.2f} ms", flush=True)
+    figure(books.sized("list of depositors", depositors, entries), listing, "ms")
+    figure(books.sized("list of what is open", depositors, entries), looking, "ms")
 
 
 def main(words):
@@ -62,6 +75,7 @@ def main(words):
         largest = int(words[at + 1])
         del words[at:at + 2]
     program = os.path.abspath(words[0]) if words else os.path.join(HERE, "..", "crates", "whx12", "out", "whx12")
+    figure("load", os.getloadavg()[0], "running")
     with tempfile.TemporaryDirectory(prefix="whx12-lists-") as folder:
         for depositors in (1, 100):
             for entries in (it for it in (1000, 10_000, 100_000) if it <= largest):

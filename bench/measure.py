@@ -1,14 +1,15 @@
 #!/usr/bin/env python3
-"""Measures the program on large interchanges: wall time, bytes a second and peak memory. Not part of the gate.
+"""Measures the program on large interchanges: wall time, bytes a second and peak memory.
 
-Usage: bench/measure.py [PROGRAM]        (default: crates/whx12/out/whx12, which `rt run` in that folder leaves)
+Usage: bench/measure.py [PROGRAM]
+       (default: crates/whx12/out/whx12, which `rt run` in that folder leaves)
 
-Two interchanges are made in a new folder and handed to `script`, each in a run of its own:
-  advices.x12   1 MiB in 1,000 sets of 943, a mix of items and lots; every set passes
-  acks.x12      800 KB in 100 sets of 997; every set passes
-A run with nothing but the enrolment tells what the program needs without them. Each is run five times, and the least time
-and the greatest memory are printed. Where Debian's X12::Parser is installed (apt-get install libx12-parser-perl) it reads
-acks.x12 in the same way, from loop to loop, with its own table of 997.
+Two interchanges are made in a new folder and handed to `script`, each in a run of its own: advices.x12
+1 MiB in 1,000 sets of 943, a mix of items and lots; every set passes acks.x12      800 KB in 100 sets of
+997; every set passes A run with nothing but the enrolment tells what the program needs without them.
+Each is run five times, and the least time and the greatest memory are printed. Where Debian's
+X12::Parser is installed (apt-get install libx12-parser-perl) it reads acks.x12 in the same way, from
+loop to loop, with its own table of 997.
 """
 import os
 import subprocess
@@ -16,34 +17,31 @@ import sys
 import tempfile
 import time
 
-HERE = os.path.dirname(os.path.abspath(__file__))
+import lib
+from lib import HERE, figure, program_of
+
+RUN = {
+    "tier": "figures",
+    "shows": "time and memory of large interchanges, beside X12::Parser where it is installed",
+    "needs": ["program"],
+    "words": [""],
+    "minutes": 0.5,
+}
 RUNS = 5
+NAMES = {"advices.x12": "advices", "acks.x12": "acknowledgments"}
 MOST_BYTES = 1_048_576
 
 
-def header(control):
-    """ISA from ZZ ACME to ZZ WHSE1."""
-    return ("ISA*00*          *00*          *ZZ*ACME           *ZZ*WHSE1          "
-            f"*250304*0915*U*00401*{control:09d}*1*P*>~")
-
-
 def interchange(control, function, sets):
-    """An interchange of one group."""
-    return (header(control) + f"GS*{function}*ACME*WHSE1*20250304*0915*{control}*X*004010~" + "".join(sets)
-            + f"GE*{len(sets)}*{control}~IEA*1*{control:09d}~")
+    """An interchange of one group, whose sender wants a TA1."""
+    return lib.interchange(function, control, *sets, wants=1)
 
 
 def advice(number, lines):
     """A 943 with that many lines: 400 items in 40 lots, no pair twice in a set."""
-    text, total = [], 0
-    for line in range(lines):
-        place = number * lines + line
-        quantity = 1 + place % 997
-        total += quantity
-        text.append(f"W04*{quantity}*EA**SK*ITEM-{place % 400:04d}~N9*LT*L{number % 40:02d}~")
-    count = 4 + 2 * lines
-    return (f"ST*943*{number:04d}~W06*F*PO{number}*20250303*SHP{number}~" + "".join(text)
-            + f"W03*{total}~SE*{count}*{number:04d}~")
+    places = range(number * lines, (number + 1) * lines)
+    made = [(1 + place % 997, f"ITEM-{place % 400:04d}", f"L{number % 40:02d}") for place in places]
+    return lib.advice(f"SHP{number}", made, f"PO{number}", number)
 
 
 def acknowledgment(number, named):
@@ -94,7 +92,7 @@ def told(name, size, seconds, work, peak, above):
 
 
 def main():
-    program = os.path.abspath(sys.argv[1] if len(sys.argv) > 1 else f"{HERE}/../crates/whx12/out/whx12")
+    program = program_of(sys.argv[1] if len(sys.argv) > 1 else None)
     with tempfile.TemporaryDirectory(prefix="whx12-bench-") as folder:
         files = {"advices.x12": advices(), "acks.x12": acks()}
         for name, text in files.items():
@@ -103,12 +101,16 @@ def main():
         open(f"{folder}/empty.txt", "w").write(begin)
         seconds, _, least, _ = run([program, "script", "empty.txt"], folder)
         print(f"{'an enrolment alone':24} {'':15} {seconds:8.3f} s, {least / 1024:.1f} MiB")
+        figure("load", os.getloadavg()[0], "running")
         fast = {}
         for name, text in files.items():
             open(f"{folder}/{name}.txt", "w").write(begin + f"send {name} --at 2025-03-04T09:15\n")
             seconds, work, peak, printed = run([program, "script", f"{name}.txt"], folder)
             fast[name] = seconds
-            told(f"whx12, {name}", len(text), seconds, work, peak, peak - least - len(text) / 1024)
+            above, what = peak - least - len(text) / 1024, NAMES[name]
+            told(f"whx12, {name}", len(text), seconds, work, peak, above)
+            figure(f"{what}, bytes a second", len(text) / seconds / 1e6, "MB/s")
+            figure(f"{what}, peak above the text", above / 1024, "MiB")
             if name == "advices.x12" and b"~AK9*A*1000*1000*1000~" not in printed:
                 sys.exit("not every set passed")
         tables = [f"{path}/X12/Parser/cf/997.cf" for path in ("/usr/share/perl5", "/usr/local/share/perl5")]
@@ -119,6 +121,8 @@ def main():
         seconds, work, peak, _ = run(["perl", f"{HERE}/parser.pl", "acks.x12", table], folder)
         told("X12::Parser, acks.x12", len(files["acks.x12"]), seconds, work, peak, None)
         print(f"whx12 takes 1/{seconds / fast['acks.x12']:.1f} of the time of X12::Parser on acks.x12")
+        figure("X12::Parser, acknowledgments, bytes a second", len(files["acks.x12"]) / seconds / 1e6, "MB/s")
+        figure("acknowledgments, times as fast as X12::Parser", seconds / fast["acks.x12"], "times")
 
 
 if __name__ == "__main__":

@@ -1,18 +1,21 @@
 #!/usr/bin/env python3
-"""Refuses each allocation of each command of the program in turn, and of a server. Not part of the gate.
+"""Refuses each allocation of each command of the program in turn, and of a server.
 
-Usage: bench/memory.py [--most N] [--only NAME] [PROGRAM]     (default: all allocations, crates/whx12/out/whx12, which `rt run` in that folder leaves)
+Usage: bench/memory.py [--most N] [--only NAME] [PROGRAM]
+       (default: all allocations, crates/whx12/out/whx12, which `rt run` in that folder leaves)
 
-A library put before the C library's (allocations.py) lets the Nth call of malloc or realloc answer that there is no memory, for N = 1, 2, .. up to as many
-as a command makes (or N evenly chosen ones under --most), a process each, over a copy of the book as it stood before the command. Each process must end
-by itself, either as it does with ample memory, byte for byte, or with `fault 40 OutOfMemory` and status 3. The command given again, with memory, then
-prints what it must: its own text, or the stored one, which are the same; `init` may find the book already made, and `enrol` the depositor enrolled. After that `verify`
-says ok, and stock and outbox are as after the command.
+A library put before the C library's (allocations.py) lets the Nth call of malloc or realloc answer that
+there is no memory, for N = 1, 2, .. up to as many as a command makes (or N evenly chosen ones under
+--most), a process each, over a copy of the book as it stood before the command. Each process must end by
+itself, either as it does with ample memory, byte for byte, or with `fault 40 OutOfMemory` and status 3.
+The command given again, with memory, then prints what it must: its own text, or the stored one, which
+are the same; `init` may find the book already made, and `enrol` the depositor enrolled. After that
+`verify` says ok, and stock and outbox are as after the command.
 
-A server is asked by one request of each route: the response is the right one, or a 503 with `40 OutOfMemory`; or nobody listens, and it ended with 40. The
-request sent again to a server with memory gets the right response. The status is 1 where something differs; the folder is then kept.
+A server is asked by one request of each route: the response is the right one, or a 503 with `40
+OutOfMemory`; or nobody listens, and it ended with 40. The request sent again to a server with memory
+gets the right response. The status is 1 where something differs; the folder is then kept.
 """
-import importlib.util
 import os
 import shutil
 import socket
@@ -21,19 +24,16 @@ import sys
 import tempfile
 import time
 
-HERE = os.path.dirname(os.path.abspath(__file__))
+import allocations
+from lib import Wrong, free_port, option, program_in
 
-
-def beside(name):
-    """A script of this folder, as a module."""
-    spec = importlib.util.spec_from_file_location(name, os.path.join(HERE, name + ".py"))
-    module = importlib.util.module_from_spec(spec)
-    sys.modules[name] = module
-    spec.loader.exec_module(module)
-    return module
-
-
-allocations = beside("allocations")
+RUN = {
+    "tier": "night",
+    "shows": "each allocation of each command, and of a server for each route, is refused in turn",
+    "needs": ["program", "gcc"],
+    "words": [""],
+    "minutes": 30,
+}
 AT = ["--at", "2025-03-04T09:15"]
 BOOK = ["--book", "book"]
 HEAD = (b"ISA*00*          *00*          *ZZ*ACME           *ZZ*WHSE1          *250304*0915*U*00401*%09d*%d*P*>~"
@@ -58,10 +58,6 @@ POST = b"POST /x12 HTTP/1.1\r\nHost: localhost\r\nContent-Length: %d\r\n\r\n%s"
 ROUTES = [("post", POST % (len(ADVICE), ADVICE)), ("post order", POST % (len(ORDER), ORDER)), ("get stock", b"GET /stock/ZZ-ACME HTTP/1.1\r\n\r\n"),
           ("get outbox", b"GET /outbox/ZZ-ACME HTTP/1.1\r\n\r\n"), ("get text", b"GET /outbox/ZZ-ACME/1 HTTP/1.1\r\n\r\n"), ("no route", b"GET / HTTP/1.1\r\n\r\n")]
 NO_MEMORY = b"HTTP/1.1 503 Service Unavailable\r\nContent-Type: text/plain\r\nContent-Length: 15\r\nConnection: close\r\n\r\n40 OutOfMemory\n"
-
-
-class Wrong(Exception):
-    """What came isn't what must come."""
 
 
 class House:
@@ -144,12 +140,6 @@ def swept(house, name, words, most):
     print(f"{name}: {calls} allocations, {len(places)} refused in turn, {refused} ended with 40, none wrong", flush=True)
 
 
-def free_port():
-    with socket.socket() as one:
-        one.bind(("127.0.0.1", 0))
-        return one.getsockname()[1]
-
-
 def asked(house, request, **more):
     """A server of one connection: the response to the request, or None where nobody listens; and how it ended."""
     port = free_port()
@@ -204,10 +194,8 @@ def served(house, name, request, most):
 
 
 def main(words):
-    option = lambda name, default: words[words.index(name) + 1] if name in words else default
-    most, only = int(option("--most", 1_000_000)), option("--only", "")
-    last = words[-1] if words and (len(words) == 1 or not words[-2].startswith("--")) else None
-    program = os.path.abspath(last or os.path.join(HERE, "..", "crates", "whx12", "out", "whx12"))
+    most, only = option(words, "--most", 1_000_000), option(words, "--only", "")
+    program = program_in(words)
     with tempfile.TemporaryDirectory() as built:
         library = allocations.built(built)
         house = House(program, library)

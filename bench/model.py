@@ -1,8 +1,10 @@
-"""A second reading of the rules, in Python, to compare the program with. It shares nothing with the program: it is written from
-the rules of docs/RULES.md, searches where the program scans, and adds up where the program keeps running rows.
+"""A second reading of the rules, in Python, to compare the program with. It shares nothing with the
+program: it is written from the rules of docs/RULES.md, searches where the program scans, and adds up
+where the program keeps running rows.
 
-`Book(warehouse)` plays the commands of a script: each call answers (printed, told, status). `Book(warehouse, 1)` plays them by
-the first version of the rules: no lot has an expiry, what was counted first goes out first, and sets and sheets are smaller.
+`Book(warehouse)` plays the commands of a script: each call answers (printed, told, status).
+`Book(warehouse, 1)` plays them by the first version of the rules: no lot has an expiry, what was counted
+first goes out first, and sets and sheets are smaller.
 """
 import datetime
 import re

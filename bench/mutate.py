@@ -1,15 +1,20 @@
 #!/usr/bin/env python3
-"""Hands in what was changed by machine: interchanges, sheets, lists of depositors, scripts, and the files of a book. Not part of the gate.
+"""Hands in what was changed by machine: interchanges, sheets, lists of depositors, scripts, and the files
+of a book.
 
 Usage: bench/mutate.py [--interchanges N] [--files N] [--seed N] [PROGRAM]
-       (default: 100000 interchanges, 10000 of each kind of file, crates/whx12/out/whx12, which `rt run` in that folder leaves)
+              (default: 100000 interchanges, 10000 of each kind of file, crates/whx12/out/whx12, which `rt
+           run` in that folder leaves)
 
-  - Interchanges of compare.py's days, of which most are then changed: bytes flipped, put in, taken out or exchanged; segments taken out, repeated,
-    exchanged or put into another interchange; delimiters changed; the end cut off. What is printed, told and the exit status are compared with
-    the second reading of the rules (model.py), a hundred to a script.
-  - Sheets changed so are compared with it too, but for those with a quotation mark, of which model.py knows nothing.
-  - Of lists of depositors, scripts, and books (bytes flipped, the file cut off or made longer, the log of another book beside it, random bytes)
-    each run must end in ten seconds, with a status of 0 to 3, and say on standard error nothing but the lines that docs/OPERATIONS.md has.
+  - Interchanges of compare.py's days, of which most are then changed: bytes flipped, put in, taken out
+    or exchanged; segments taken out, repeated, exchanged or put into another interchange; delimiters
+    changed; the end cut off. What is printed, told and the exit status are compared with the second
+    reading of the rules (model.py), a hundred to a script.
+  - Sheets changed so are compared with it too, but for those with a quotation mark, of which model.py
+    knows nothing.
+  - Of lists of depositors, scripts, and books (bytes flipped, the file cut off or made longer, the log
+    of another book beside it, random bytes) each run must end in ten seconds, with a status of 0 to 3,
+    and say on standard error nothing but the lines that docs/OPERATIONS.md has.
 
 Status 1 where something differs; the folder is then kept.
 """
@@ -21,16 +26,19 @@ import subprocess
 import sys
 import tempfile
 
-HERE = os.path.dirname(os.path.abspath(__file__))
-sys.path.insert(0, HERE)
-import compare  # noqa: E402
+import compare
+from lib import Wrong, option, program_in
 
+RUN = {
+    "tier": "night",
+    "shows": "interchanges, sheets, lists, scripts and books changed by machine: each run "
+             "ends, and says what it may",
+    "needs": ["program"],
+    "words": ["--interchanges 20000 --files 1000"],
+    "minutes": 5,
+}
 TOLD = re.compile(rb"(refused \d+ \w+(\(\d{3}\))?|fault 4[0-4] \w+)\n")
 AT = "2025-03-04T09:15"
-
-
-class Wrong(Exception):
-    """What came isn't what must come."""
 
 
 def bent(r, text):
@@ -196,10 +204,8 @@ def books(program, r, folder, many):
 
 
 def main(words):
-    option = lambda name, default: int(words[words.index(name) + 1]) if name in words else default
-    interchanges, many, seed = option("--interchanges", 100000), option("--files", 10000), option("--seed", 1)
-    last = words[-1] if words and not words[-1].isdigit() and not words[-1].startswith("--") else None
-    program = os.path.abspath(last or os.path.join(HERE, "..", "crates", "whx12", "out", "whx12"))
+    interchanges, many, seed = option(words, "--interchanges", 100000), option(words, "--files", 10000), option(words, "--seed", 1)
+    program = program_in(words)
     folder = tempfile.mkdtemp(prefix="changed")
     try:
         days(program, seed, interchanges, many)

@@ -1,14 +1,16 @@
 #!/usr/bin/env python3
-"""Gives the commands of README.md, docs/OPERATIONS.md and docs/PROFILE.md as a newcomer would, and compares what is printed with the pages. Not part of the gate.
+"""Gives the commands of README.md, docs/OPERATIONS.md, docs/UPGRADING.md and docs/PROFILE.md as a newcomer would, and compares what is printed
+with the pages. Not part of CI.
 
-Usage: bench/newcomer.py [--program PROGRAM] [--page PAGE ..]     (default: crates/whx12/out/whx12 of this repository, and the three pages)
+Usage: bench/newcomer.py [--program PROGRAM] [--page PAGE ..]     (default: crates/whx12/out/whx12 of this repository, and the four pages)
 
 The commands are taken out of the pages of the last commit. In a block of ```console a line `$ COMMAND` is a command, and the lines after it are what
 it prints, on standard output and standard error, whole. Two dots there stand for what the page leaves out: on a line by themselves for any lines, else
 for anything within the line. A comment <!-- first: COMMAND --> is given too, and stands for what the page takes to be there; what it prints isn't
 compared. Blocks of ```x12 and ```text hold no commands (bench/guide.py plays the first kind); a block of any other kind is told as `differs`.
-A table whose first column is `Told` has its tries after it, a comment of lines `NUMBER: COMMAND` or `NUMBER: FILE`: the command ends with what the row of this
-number says, or the file of the repository shows it. Each row has to be tried.
+A table whose first column is `Printed` has its tries in bench/guide.cases of the last commit (bench/guide.py says how its headings are read), in lines
+`NUMBER: COMMAND` or `NUMBER: FILE`: the command ends with what the row of this number says, or the file of the repository shows it. The commands are
+given where the table stands. Each row must be tried. A table without its heading is told as `differs`, and so is a heading without its table.
 
 Each page has a fresh clone of the repository, a new HOME and a clean shell (env -i) which begins at the top of the clone, as a newcomer does. It finds the
 system's programs, `rt`, and PROGRAM as whx12. PROGRAM also lies where a build leaves it in the clone, so that nothing is proved.
@@ -30,26 +32,44 @@ import sys
 import tempfile
 import time
 
-TOP = os.path.dirname(os.path.dirname(os.path.abspath(__file__)))
-PAGES = ["README.md", "docs/OPERATIONS.md", "docs/PROFILE.md"]
+from guide import CASES, PRINTED, is_kind, read_cases, table_names
+from lib import PROGRAM, TOP
+
+RUN = {
+    "tier": "night",
+    "shows": "each command of README.md and of the pages for operators and partners, given in a clean shell and a fresh clone, prints what "
+             "the page shows; each row of the tables of refusals and faults holds",
+    "needs": ["program", "git", "curl", "sqlite3", "rt"],
+    "words": [""],
+    "minutes": 5,
+}
+PAGES = ["README.md", "docs/OPERATIONS.md", "docs/UPGRADING.md", "docs/PROFILE.md"]
 # What isn't given here, and why: how the command begins, and the reason.
 PASSED_OVER = [
     ("rt ci", "proves everything, which takes hours"),
     ("systemctl", "needs a service manager"),
     ("sudo", "needs root"),
 ]
-PART = re.compile(r"^<!-- first: (.*?) -->$|^```(\S*)\n(.*?)^```$|^\| Told \|[^\n]*\n\|[-|]+\n((?:\|[^\n]*\n)+)(?:\n<!-- tries\n(.*?)^-->$)?", re.M | re.S)
+PART = re.compile(r"^<!-- first: (.*?) -->$|^```(\S*)\n(.*?)^```$|^\| Printed \|[^\n]*\n\|[-|]+\n((?:\|[^\n]*\n)+)", re.M | re.S)
 ADDRESS = "127.0.0.1:8080"
 SECONDS = 1200
 
 
-def commands(text):
-    """What a page says, in its order: a command, and what it prints; None where that isn't compared. No command: a block of another kind."""
-    for first, kind, block, rows, tries in PART.findall(text):
+def commands(page, text, sections):
+    """What a page says, in its order: a command, and what it prints; None where that isn't compared. No command: what is wrong with the page."""
+    found = PART.findall(text)
+    names = table_names([PRINTED] * sum(bool(rows) for _, _, _, rows in found))
+    for table in [table for name, table in sections if name == page and is_kind(table, [PRINTED]) and table not in names]:
+        yield None, f"{CASES} has a section {table}, the page no such table\n"
+    for first, kind, block, rows in found:
         if first:
             yield first, None
         elif rows:
-            yield from told(rows, tries)
+            table = names.pop(0)
+            if (page, table) in sections:
+                yield from told(rows, sections[page, table][1])
+            else:
+                yield None, f"{CASES} has no section {table}\n"
         elif kind == "console":
             # A line that begins with neither a prompt nor a command before it would be lost.
             head, *parts = re.split(r"^\$ ", block, flags=re.M)
@@ -66,11 +86,13 @@ def told(rows, tries):
     """The tries of a table, as commands and what they print at last."""
     names = [re.match(r"\| `(?:fault )?((\d+) [^`]+)`", row).groups() for row in rows.splitlines()]
     left = dict((number, name) for name, number in names)
-    for line in tries.splitlines():
+    for line in tries:
         number, _, command = line.partition(": ")
-        name = next(name for name, each in names if each == number)
+        name = next((name for name, each in names if each == number), None)
         left.pop(number, None)
-        if re.fullmatch(r"(bench|crates)/\S+", command):
+        if name is None:
+            yield None, f"no row {number}\n"
+        elif re.fullmatch(r"(bench|crates)/\S+", command):
             if not os.path.exists(os.path.join(TOP, command)):
                 yield None, f"no {command}\n"
         else:
@@ -149,14 +171,15 @@ def play(page, program):
         shell = Shell(folder, program)
         with open(os.path.join(shell.clone, page), encoding="utf-8") as file:
             text = file.read()
+        sections = read_cases(shell.clone)
         try:
-            for command, wanted in commands(text):
+            for command, wanted in commands(os.path.basename(page), text, sections):
                 why = next((why for begin, why in PASSED_OVER if (command or "").startswith(begin)), None)
                 if why:
                     print(f"{page}: passed over: {why}: {command}", flush=True)
                     continue
                 if command is None:
-                    print(f"{page}: differs: a block or a line that is no command:\n{wanted}", flush=True)
+                    print(f"{page}: differs: no command:\n{wanted}", flush=True)
                     differ += 1
                     continue
                 status, got = shell.give(command)
@@ -176,11 +199,15 @@ def play(page, program):
 
 def main():
     parser = argparse.ArgumentParser()
-    parser.add_argument("--program", default=os.path.join(TOP, "crates", "whx12", "out", "whx12"))
+    parser.add_argument("--program", default=PROGRAM)
     parser.add_argument("--page", nargs="+", default=PAGES)
     asked = parser.parse_args()
     found = [play(page, os.path.abspath(asked.program)) for page in asked.page]
     given, differ = map(sum, zip(*found))
+    for page, table in read_cases(TOP):
+        if is_kind(table, [PRINTED]) and page not in map(os.path.basename, PAGES):
+            print(f"{CASES} has a section of another page: {page}: {table}")
+            differ += 1
     print(f"{given} commands of {len(found)} pages given, {differ} otherwise than the pages have them")
     return 1 if differ or not given else 0
 

@@ -1,12 +1,14 @@
 #!/usr/bin/env python3
-"""Measures what one step costs by the number of rows on its depositor's page. Not part of the gate.
+"""Measures what one step costs by the number of rows on its depositor's page.
 
 Usage: bench/pages.py [PROGRAM]     (default: crates/whx12/out/whx12, which `rt run` in that folder leaves)
 
-A page of so many pairs of item and lot is made in a book in memory by `script`, by advices of up to 99 lines. Then one interchange of a
-single 943 of one line is handed in, or, in another run, one of 1,000 such sets, each a step of its own over the page. The 999 steps between the
-two take the difference of the two processor times, since all else is the same. Lines name pairs that the page has, or new pairs that
-come after all others or before them in the list of rows. Each run is made several times, in turn, and the least times count.
+A page of so many pairs of item and lot is made in a book in memory by `script`, by advices of up to 99
+lines. Then one interchange of a single 943 of one line is handed in, or, in another run, one of 1,000
+such sets, each a step of its own over the page. The 999 steps between the two take the difference of the
+two processor times, since all else is the same. Lines name pairs that the page has, or new pairs that
+come after all others or before them in the list of rows. Each run is made several times, in turn, and
+the least times count.
 """
 import os
 import resource
@@ -14,7 +16,16 @@ import subprocess
 import sys
 import tempfile
 
-HERE = os.path.dirname(os.path.abspath(__file__))
+import lib
+from lib import figure, program_of
+
+RUN = {
+    "tier": "figures",
+    "shows": "what a step costs by the rows of its page",
+    "needs": ["program"],
+    "words": [""],
+    "minutes": 2,
+}
 SIZES = [100, 1000, 10_000, 100_000]
 STEPS, RUNS = 1000, 7
 MOST_BYTES = 1_048_576
@@ -22,15 +33,13 @@ AT = " --at 2025-03-04T09:15\n"
 
 
 def interchange(control, sets):
-    return ("ISA*00*          *00*          *ZZ*ACME           *ZZ*WHSE1          "
-            f"*250304*0915*U*00401*{control:09d}*0*P*>~GS*AR*ACME*WHSE1*20250304*0915*{control}*X*004010~" + "".join(sets)
-            + f"GE*{len(sets)}*{control}~IEA*1*{control:09d}~")
+    """An interchange of advices."""
+    return lib.interchange("AR", control, *sets)
 
 
 def advice(number, shipment, pairs):
     """A 943 of these pairs, one of each."""
-    lines = "".join(f"W04*1*EA**SK*{item}~N9*LT*{lot}~" for item, lot in pairs)
-    return f"ST*943*{number:04d}~W06*F*PO*20250303*{shipment}~{lines}W03*{len(pairs)}~SE*{4 + 2 * len(pairs)}*{number:04d}~"
+    return lib.advice(shipment, [(1, item, lot) for item, lot in pairs], "PO", number)
 
 
 def page(size):
@@ -87,8 +96,9 @@ def measure(program, folder, size, item, new):
 
 
 def main(words):
-    program = os.path.abspath(words[0] if words else os.path.join(HERE, "..", "crates", "whx12", "out", "whx12"))
+    program = program_of(words[0] if words else None)
     print(f"microseconds of a step; load {os.getloadavg()[0]:.1f}, least of {RUNS} runs")
+    figure("load", os.getloadavg()[0], "running")
     print("   rows   a pair that is there   a new one behind   a new one in front   (all before the step, s)")
     with tempfile.TemporaryDirectory(prefix="whx12-pages-") as folder:
         for size in SIZES:
@@ -96,6 +106,8 @@ def main(words):
                      (lambda number: f"B{99999 - number:05d}", True)]
             found = [measure(program, folder, size, item, new) for item, new in kinds]
             print(f"{size:7,d}   " + "   ".join(f"{seconds * 1e6:18.1f}" for seconds, _ in found) + f"   {found[0][1]:12.3f}", flush=True)
+            for what, (seconds, _) in zip(("its row is there", "a new row behind", "a new row in front"), found):
+                figure(f"step, {size:,} rows, {what}", seconds * 1e6, "us")
 
 
 if __name__ == "__main__":

@@ -1,11 +1,13 @@
 #!/usr/bin/env python3
-"""Runs `rt plant` over the libraries that a run of `rt ci` built, where `rt plant` alone proves all of them again first. Not part of the gate.
+"""Runs `rt plant` over the libraries that a run of `rt ci` built, where `rt plant` alone proves all of them
+again first.
 
 Usage: bench/plant.py CRATE FOLDER [--keep PLACE] [--only WORD] [--minutes N] [--max N] [--all]
 
-FOLDER is the clone of `bench/gate.py --keep FOLDER`, of the same sources. The crate is checked and planted in a clone of the last commit
-of its own, so several crates may be planted side by side; with --keep it stays in PLACE, and the next run there proves what changed
-alone. The further words are those of `rt plant --help`. The status is that of `rt plant`.
+FOLDER is the clone of `bench/ci.py --keep FOLDER`, of the same sources. The crate is checked and planted
+in a clone of the last commit of its own, so several crates may be planted side by side; with --keep it
+stays in PLACE, and the next run there proves what changed alone. The further words are those of `rt
+plant --help`. The status is that of `rt plant`.
 """
 import importlib.machinery
 import os
@@ -15,7 +17,14 @@ import sys
 import tempfile
 import types
 
-TOP = os.path.dirname(os.path.dirname(os.path.abspath(__file__)))
+from lib import TOP
+
+RUN = {
+    "tier": "by hand",
+    "shows": "a helper: `rt plant` in a crate, over the libraries that bench/ci.py --keep left",
+    "needs": ["rt"],
+    "minutes": 20,
+}
 PLANT = "/opt/rattle/bin/rt-plant"
 
 

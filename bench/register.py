@@ -1,23 +1,20 @@
-"""Registers of any length, as rows of the book's tables, written without the program: a regular trade whose texts and balances can
-be told in advance. bench/books.py fills books with them.
+"""Registers of any length, as rows of the book's tables, written without the program: a regular trade whose
+texts and balances can be told in advance. bench/books.py fills books with them.
 
-Each depositor goes round in fours: an advice of 10 of a pair, its count as 10, an order of 6 of that item, its pick. There are fifty
-items, each of one lot, so that every order finds what it wants. Everything happens on 2025-03-04 at 09:15.
+Each depositor goes round in fours: an advice of 10 of a pair, its count as 10, an order of 6 of that
+item, its pick. There are fifty items, each of one lot, so that every order finds what it wants.
+Everything happens on 2025-03-04 at 09:15.
 """
+import lib
 
 STAMP = "202503040915"
 PAIRS = 50
 COLUMNS = {"entry": 6, "outgoing": 5, "stock": 8, "advice": 4, "advice_line": 6, "orders": 7, "order_line": 6, "reservation": 5, "entry_rules": 2}
 
 
-def header(sender, receiver, control):
-    return (f"ISA*00*{'':10}*00*{'':10}*ZZ*{sender:15}*ZZ*{receiver:15}*250304*0915*U*00401*{control:09d}*0*P*>~")
-
-
 def interchange(sender, receiver, function, n, text):
     """One group with one set, all under one number."""
-    return (header(sender, receiver, n) + f"GS*{function}*{sender}*{receiver}*20250304*0915*{n}*X*004010~{text}"
-            f"GE*1*{n}~IEA*1*{n:09d}~")
+    return lib.interchange(function, n, text, sender=sender, receiver=receiver)
 
 
 def pair(k):

@@ -1,55 +1,50 @@
 #!/usr/bin/env python3
-"""Hands the server requests that were changed by machine, and compares each response with a second reading of HTTP's rules. Not part of the gate.
+"""Hands the server requests that were changed by machine, and compares each response with a second reading
+of HTTP's rules.
 
-Usage: bench/requests.py [--requests N] [--seed N] [--clerks] [PROGRAM]     (default: 100000, crates/whx12/out/whx12, which `rt run` in that folder leaves)
+Usage: bench/requests.py [--requests N] [--seed N] [--clerks] [PROGRAM]
+       (default: 100000, crates/whx12/out/whx12, which `rt run` in that folder leaves)
 
-PROGRAM serves a book of ZZ-WHSE1 in which ZZ-ACME is enrolled. Each request is one of its routes, or near to one, and most are then changed:
-bytes flipped, put in, taken out or exchanged; fields repeated, left out or empty; lengths too small, too large or no number; the end cut off. Each
-is sent on a connection of its own, which then says that nothing more comes. The status is that of the second reading below, written from the grammar
-of RFC 9112 and the rules of docs/PROFILE.md without the program's code; of an interchange the body is what bench/model.py answers, and every
-response has the fields and the length that it must have. In the end `verify` says ok, and stock and outbox are those of model.py.
+PROGRAM serves a book of ZZ-WHSE1 in which ZZ-ACME is enrolled. Each request is one of its routes, or
+near to one, and most are then changed: bytes flipped, put in, taken out or exchanged; fields repeated,
+left out or empty; lengths too small, too large or no number; the end cut off. Each is sent on a
+connection of its own, which then says that nothing more comes. The status is that of the second reading
+below, written from the grammar of RFC 9112 and the rules of docs/PROFILE.md without the program's code;
+of an interchange the body is what bench/model.py answers, and every response has the fields and the
+length that it must have. In the end `verify` says ok, and stock and outbox are those of model.py.
 
 With --clerks the server takes clerks' requests too, and half of the requests are such.
 
-Where a head is neither plainly good nor plainly bad, of which RFC 9112 lets a server choose (a lone LF for CR LF, blanks before a field, bytes above 7E),
-400 and the other reading are both taken. The status is 1 where something differs; the folder is then kept.
+Where a head is neither plainly good nor plainly bad, of which RFC 9112 lets a server choose (a lone LF
+for CR LF, blanks before a field, bytes above 7E), 400 and the other reading are both taken. The status
+is 1 where something differs; the folder is then kept.
 """
 import os
-import random
 import re
 import shutil
 import socket
 import subprocess
 import sys
 import tempfile
-import time
 
-HERE = os.path.dirname(os.path.abspath(__file__))
-# Not on the path: bench/http.py would stand in the place of Python's own.
-import importlib.util  # noqa: E402
+import compare
+import model
+from lib import Wrong, free_port, knock, option, program_in
 
-
-def beside(name):
-    """A script of this folder, as a module."""
-    spec = importlib.util.spec_from_file_location(name, os.path.join(HERE, name + ".py"))
-    module = importlib.util.module_from_spec(spec)
-    sys.modules[name] = module
-    spec.loader.exec_module(module)
-    return module
-
-
-model = beside("model")
-compare = beside("compare")
+RUN = {
+    "tier": "night",
+    "shows": "HTTP requests changed by machine, against a second reading of HTTP's rules and "
+             "model.py",
+    "needs": ["program"],
+    "words": ["--requests 10000", "--requests 20000 --clerks"],
+    "minutes": 6,
+}
 AT = "2025-03-04T09:15"
 # whether clerks are served
 CLERKS = "--clerks" in sys.argv
 TOKEN = rb"[!#$%&'*+\-.^_`|~0-9A-Za-z]+"
 PHRASES = {200: b"OK", 204: b"No Content", 400: b"Bad Request", 404: b"Not Found", 405: b"Method Not Allowed", 409: b"Conflict", 411: b"Length Required",
            413: b"Payload Too Large", 422: b"Unprocessable Entity", 501: b"Not Implemented"}
-
-
-class Wrong(Exception):
-    """What came isn't what must come."""
 
 
 def split_head(raw):
@@ -304,25 +299,14 @@ def once(port, raw):
     return b"".join(pieces)
 
 
-def free_port():
-    with socket.socket() as one:
-        one.bind(("127.0.0.1", 0))
-        return one.getsockname()[1]
-
-
 def served(program, folder, count):
     """A server of so many connections, which listens."""
     port = free_port()
     server = subprocess.Popen([program, "serve", "--book", "book", "--listen", f"127.0.0.1:{port}", "--count", str(count), "--at", AT,
                                *(["--clerks"] if CLERKS else [])], cwd=folder,
                               stdout=subprocess.DEVNULL, stderr=subprocess.PIPE)
-    for _ in range(400):
-        try:
-            socket.create_connection(("127.0.0.1", port), 1).close()
-            return server, port
-        except OSError:
-            time.sleep(0.02)
-    raise Wrong(f"nobody listens: {folder}")
+    knock(port)
+    return server, port
 
 
 def play(program, folder, seed, count):
@@ -356,10 +340,8 @@ def play(program, folder, seed, count):
 
 
 def main(words):
-    option = lambda name, default: int(words[words.index(name) + 1]) if name in words else default
-    requests, seed = option("--requests", 100_000), option("--seed", 1)
-    last = words[-1] if words and not words[-1].isdigit() and not words[-1].startswith("--") else None
-    program = os.path.abspath(last or os.path.join(HERE, "..", "crates", "whx12", "out", "whx12"))
+    requests, seed = option(words, "--requests", 100_000), option(words, "--seed", 1)
+    program = program_in(words)
     seen = {}
     for one in range(seed, seed + max(1, requests // 500)):
         folder = tempfile.mkdtemp(prefix="requests")

@@ -1,18 +1,27 @@
 #!/usr/bin/env python3
-"""Looks where the definitions tell rules 1 and 2 apart. Not part of the gate.
+"""Looks where the definitions tell rules 1 and 2 apart.
 
 Usage: bench/rules.py
 
-`first_rules_stay` (crates/profile/src/laws.rt) says what rules 1 give wherever rules decide something. This lists each definition of
-crates/profile/specs that names rules 1 or 2, with the clause of that law that speaks of it, or why none has to. All other definitions only hand
-rules on. The status is 1 where a definition names them that isn't in the list, or one of the list doesn't any more.
+`first_rules_stay` (crates/profile/src/laws.rt) says what rules 1 give wherever rules decide something.
+This lists each definition of crates/profile/specs that names rules 1 or 2, with the clause of that law
+that speaks of it, or why none has to. All other definitions only hand rules on. The status is 1 where a
+definition names them that isn't in the list, or one of the list doesn't any more.
 """
 import glob
 import os
 import re
 import sys
 
-TOP = os.path.dirname(os.path.dirname(os.path.abspath(__file__)))
+from lib import TOP
+
+RUN = {
+    "tier": "quick",
+    "shows": "the definitions tell the rules' versions apart in the listed places alone, each "
+             "with its law",
+    "words": [""],
+    "minutes": 0.01,
+}
 PLACES = {
     "Allotment.ranks_before": "lots",
     "Changes.rules_put": "put",

@@ -1,14 +1,17 @@
 #!/usr/bin/env python3
-"""What each function of a crate costs the prover. Not part of the gate.
+"""What each function of a crate costs the prover.
 
 Usage: bench/seconds.py CRATE [--cpus 3] [--most 40] [--keep FOLDER] [FLAG ..]
-       (default: processor 3, the forty dearest; further flags go to `rattle check`, as `--only CRATE::module` or `--allow-holes`)
+              (default: processor 3, the forty dearest; further flags go to `rattle check`, as `--only
+           CRATE::module` or `--allow-holes`)
 
-The crate is checked over the libraries that earlier runs of `rt ci` on this machine kept (the newest of each), or that bench/libraries.py made, by one job, as the gate does it. Printed
-are rattle's last lines, the seconds of each part of all proofs, and those of each function: those between what was checked before it and itself,
-with the lemmas that it is the first to need; after them, where it takes a second or more, those of its search alone (its module `Proof`), which an
-answer would save. With `--keep` what is proved stays in FOLDER and the next run there does only what changed. A first function pays some
-15 seconds for the front end. Other work on the machine makes all of it dearer.
+The crate is checked over the libraries that earlier runs of `rt ci` on this machine kept (the newest of
+each), or that bench/libraries.py made, by one job, as CI does it. Printed are rattle's last lines, the
+seconds of each part of all proofs, and those of each function: those between what was checked before it
+and itself, with the lemmas that it is the first to need; after them, where it takes a second or more,
+those of its search alone (its module `Proof`), which an answer would save. With `--keep` what is proved
+stays in FOLDER and the next run there does only what changed. A first function pays some 15 seconds for
+the front end. Other work on the machine makes all of it dearer.
 """
 import collections
 import glob
@@ -19,22 +22,18 @@ import subprocess
 import sys
 import tempfile
 
-TOP = os.path.dirname(os.path.dirname(os.path.abspath(__file__)))
+from lib import TOP, crates_of, option
+
+RUN = {
+    "tier": "by hand",
+    "shows": "what each function of a crate costs the prover",
+    "needs": ["libraries"],
+    "minutes": 10,
+}
 KIT = "/opt/rattle"
 KEPT = "/opt/rattle-kept"
 # the parts of a function's proof, each a module of its own
 PARTS = re.compile(r"(Lts|Proof|Tie|Kinds|Answers|Met|Statement|Code|Goals|Text|Invariants|Owed|Parts|Close|Calls|Given)")
-
-
-def crates():
-    """What each crate of crates.txt stands on."""
-    found = {}
-    with open(f"{TOP}/crates.txt", encoding="utf-8") as file:
-        for line in file:
-            name, colon, below = line.split("#")[0].partition(":")
-            if colon:
-                found[name.strip()] = below.split()
-    return found
 
 
 def lay(name, folder):
@@ -91,18 +90,9 @@ def spent(folder, since):
     return sums, kinds, searches
 
 
-def option(words, name, default):
-    if name not in words:
-        return default
-    at = words.index(name)
-    value = words[at + 1]
-    del words[at : at + 2]
-    return value
-
-
 def main():
     words = sys.argv[1:]
-    cpus, most, keep = option(words, "--cpus", "3"), int(option(words, "--most", "40")), option(words, "--keep", None)
+    cpus, most, keep = option(words, "--cpus", "3"), option(words, "--most", 40), option(words, "--keep", None)
     crate = words.pop(0)
     os.chdir(f"{TOP}/crates/{crate}")
     with tempfile.TemporaryDirectory(prefix="whx12-seconds-") as room:
@@ -112,7 +102,7 @@ def main():
         begun = f"{room}/begun"
         with open(begun, "w", encoding="utf-8"):
             pass
-        run = subprocess.run(["taskset", "-c", cpus, *words_of(crate, crates(), f"{room}/rlib"), "--incremental", kept, *words],
+        run = subprocess.run(["taskset", "-c", cpus, *words_of(crate, crates_of(), f"{room}/rlib"), "--incremental", kept, *words],
                              stdout=subprocess.PIPE, stderr=subprocess.STDOUT, text=True, errors="replace", check=False)
         sums, kinds, searches = spent(kept, os.stat(begun).st_mtime)
     lines = [it for it in run.stdout.splitlines() if not it.startswith("statements ")]

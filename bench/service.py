@@ -1,37 +1,38 @@
 #!/usr/bin/env python3
-"""Tries the files of examples/service: the scripts over a real book, the unit by systemd-analyze, the site by nginx. Not part of the gate.
+"""Tries the files of examples/service: the scripts over a real book, the unit by systemd-analyze, the site
+by nginx.
 
 Usage: bench/service.py [PROGRAM]     (default: crates/whx12/out/whx12, which `rt run` in that folder leaves)
 
-Wants systemd-analyze, nginx, openssl and curl. The scripts find PROGRAM as whx12. A backup is made and checked, and a damaged one is told; an inbox of
-good, refused and odd files is taken and cleared, and stays where the book is in use; documents are handed on once, and again where they are removed. The
-unit has no warning. nginx stands in front of a server: without a password it answers 401, with one the advice is answered, and a slow body holds up nobody.
-Status 1 where something differs; the folder is then kept.
+Wants systemd-analyze, nginx, openssl and curl. The scripts find PROGRAM as whx12. A backup is made and
+checked, and a damaged one is told; an inbox of good, refused and odd files is taken and cleared, and
+stays where the book is in use; documents are handed on once, and again where they are removed. The unit
+has no warning. nginx stands in front of a server: without a password it answers 401, with one the advice
+is answered, and a slow body holds up nobody. Status 1 where something differs; the folder is then kept.
 """
 import os
 import shutil
 import signal
-import socket
 import subprocess
 import sys
 import tempfile
 import time
 
-HERE = os.path.dirname(os.path.abspath(__file__))
+from lib import HERE, Wrong, free_port, knock, program_of, same
+
+RUN = {
+    "tier": "night",
+    "shows": "the files of examples/service: scripts over a real book, the unit, nginx in "
+             "front of a server",
+    "needs": ["program", "systemd-analyze", "nginx", "openssl", "curl"],
+    "words": [""],
+    "minutes": 1,
+}
 SERVICE = os.path.join(HERE, "..", "examples", "service")
 AT = ["--at", "2025-03-04T09:15"]
 HEAD = "ISA*00*          *00*          *ZZ*ACME           *ZZ*WHSE1          *250304*0915*U*00401*%09d*%d*P*>~GS*AR*ACME*WHSE1*20250304*0915*1*X*004010~"
 ADVICE = (HEAD % (1, 1) + "ST*943*0001~W06*F*PO77*20250303*SHP1~W04*100*EA**SK*BOLT~N9*LT*L1~W03*100~SE*6*0001~GE*1*1~IEA*1*000000001~")
 SECOND = ADVICE.replace("*000000001*", "*000000002*").replace("000000001~", "000000002~").replace("SHP1", "SHP2")
-
-
-class Wrong(Exception):
-    """What came isn't what must come."""
-
-
-def same(what, got, wanted):
-    if got != wanted:
-        raise Wrong(f"{what}: wanted {wanted!r}, got {got!r}")
 
 
 class House:
@@ -115,22 +116,6 @@ def units(house):
     same("systemd-analyze", (status, out, told), (0, "", ""))
 
 
-def free_port():
-    with socket.socket() as one:
-        one.bind(("127.0.0.1", 0))
-        return one.getsockname()[1]
-
-
-def listens(port):
-    for _ in range(200):
-        try:
-            socket.create_connection(("127.0.0.1", port), 1).close()
-            return
-        except OSError:
-            time.sleep(0.02)
-    raise Wrong(f"nobody listens at {port}")
-
-
 def sites(house):
     """nginx in front of a server."""
     front, behind = free_port(), free_port()
@@ -152,8 +137,8 @@ def sites(house):
                               stdout=subprocess.DEVNULL)
     nginx = subprocess.Popen(["nginx", "-c", house.at("nginx.conf"), "-e", house.at("error.log"), "-g", "daemon off;"])
     try:
-        listens(behind)
-        listens(front)
+        knock(behind)
+        knock(front)
         house.put(SECOND, "second.x12")
         curl = ["curl", "-sk", "-o", house.at("got"), "-w", "%{http_code}", "--max-time", "20"]
         url = f"https://127.0.0.1:{front}"
@@ -175,7 +160,7 @@ def sites(house):
 
 
 def main(words):
-    program = os.path.abspath(words[0] if words else os.path.join(HERE, "..", "crates", "whx12", "out", "whx12"))
+    program = program_of(words[0] if words else None)
     house = House(program)
     try:
         for part in (inboxes, outboxes, backups, units, sites):

@@ -1,53 +1,53 @@
 #!/usr/bin/env python3
-"""Splits a house's depositors over several books, each with a server of its own, and compares them with one book that has all. Not part of the gate.
+"""Splits a house's depositors over several books, each with a server of its own, and compares them with one
+book that has all.
 
 Usage: bench/split.py [--books N] [--depositors N] [--each N] [PROGRAM]
-       (default: 4 books, 40 depositors, 50 interchanges each; crates/whx12/out/whx12, which `rt run` in that folder leaves)
+              (default: 4 books, 40 depositors, 50 interchanges each; crates/whx12/out/whx12, which `rt run`
+           in that folder leaves)
 
-Depositors don't meet: what one is answered depends on its own entries alone. So a house that outgrows one process may keep some
-depositors in one book and some in another. The same interchanges, an advice each, are posted to one server with one book, and then
-to several servers with a book each, a client process for each book in both cases, one connection a request. Every answer has to be
-the same, byte for byte, and the books together have to hold the rows that the one book holds. Printed are requests a second, and how
-many times as many the several books took; how far that goes is the machine's: its processors, and what its disk does at once.
+Depositors don't meet: what one is answered depends on its own entries alone. So a house that outgrows
+one process may keep some depositors in one book and some in another. The same interchanges, an advice
+each, are posted to one server with one book, and then to several servers with a book each, a client
+process for each book in both cases, one connection a request. Every answer has to be the same, byte for
+byte, and the books together have to hold the rows that the one book holds. Printed are requests a
+second, and how many times as many the several books took; how far that goes is the machine's: its
+processors, and what its disk does at once.
 """
 import contextlib
 import multiprocessing
 import os
-import socket
 import sqlite3
 import subprocess
 import sys
 import tempfile
 import time
 
-HERE = os.path.dirname(os.path.abspath(__file__))
+import lib
+from lib import figure, free_port, knock, once, post_of, program_of
+
+RUN = {
+    "tier": "figures",
+    "shows": "depositors over four books with four servers get the answers of one book; how "
+             "many times as many a second",
+    "needs": ["program"],
+    "words": [""],
+    "minutes": 0.5,
+}
 AT = ["--at", "2025-03-04T09:15"]
 TABLES = ["outgoing", "stock", "advice", "advice_line", "orders", "order_line", "reservation", "lot_expiry"]
 
 
 def advice(depositor, number):
     """A 943 of one line, under a control number and a shipment number of its own."""
-    own = f"D{depositor:03d}"
-    head = f"ISA*00*{' ' * 10}*00*{' ' * 10}*ZZ*{own:<15}*ZZ*{'WHSE1':<15}*250304*0915*U*00401*{number:09d}*1*P*>~"
-    set_ = f"ST*943*0001~W06*F*PO{number}*20250303*SHP{number}~W04*{number}*EA**SK*ITEM-{number % 7}~N9*LT*L{number % 5}~W03*{number}~SE*6*0001~"
-    return (head + f"GS*AR*{own}*WHSE1*20250304*0915*{number}*X*004010~{set_}GE*1*{number}~IEA*1*{number:09d}~").encode()
-
-
-def free_port():
-    with socket.socket() as one:
-        one.bind(("127.0.0.1", 0))
-        return one.getsockname()[1]
+    line = (number, f"ITEM-{number % 7}", f"L{number % 5}")
+    made = lib.advice(f"SHP{number}", [line], f"PO{number}")
+    return lib.interchange("AR", number, made, sender=f"D{depositor:03d}", wants=1).encode()
 
 
 def post(port, text):
     """The body of the response to a posted interchange, and its status."""
-    head = f"POST /x12 HTTP/1.1\r\nHost: localhost\r\nContent-Length: {len(text)}\r\n\r\n".encode()
-    with socket.create_connection(("127.0.0.1", port)) as peer:
-        peer.sendall(head + text)
-        answer = b""
-        while piece := peer.recv(65536):
-            answer += piece
-    status, _, body = answer.partition(b"\r\n\r\n")
+    status, _, body = once("127.0.0.1", port, post_of(text))[1].partition(b"\r\n\r\n")
     return status.split(b" ")[1], body
 
 
@@ -72,12 +72,7 @@ def served(program, folder, name, shares, books, each):
         paths.append(path)
         ports.append(port)
     for port in ports:
-        for _ in range(200):
-            try:
-                socket.create_connection(("127.0.0.1", port)).close()
-                break
-            except OSError:
-                time.sleep(0.05)
+        knock(port)
     start, answers = multiprocessing.Event(), multiprocessing.Queue()
     clients = [multiprocessing.Process(target=client, args=(ports[at % books], share, each, start, answers)) for at, share in enumerate(shares)]
     for one in clients:
@@ -119,7 +114,8 @@ def number_after(words, name, default):
 def main():
     words = sys.argv[1:]
     books, depositors, each = (number_after(words, name, n) for name, n in (("--books", 4), ("--depositors", 40), ("--each", 50)))
-    program = os.path.abspath(words[0] if words else os.path.join(HERE, "../crates/whx12/out/whx12"))
+    program = program_of(words[0] if words else None)
+    figure("load", os.getloadavg()[0], "running")
     shares = [list(range(at, depositors, books)) for at in range(books)]
     with tempfile.TemporaryDirectory(prefix="whx12-split-") as folder:
         one, answers, path = served(program, folder, "one", shares, 1, each)
@@ -134,6 +130,8 @@ def main():
                 sys.exit(f"verify of {book}: {said}")
     count = len(answers)
     print(f"{count} interchanges: one book {count / one:.0f} a second, {books} books {count / several:.0f} a second, {one / several:.1f} times as many")
+    figure("new interchange over HTTP, 1 book", count / one, "requests/s")
+    figure(f"new interchange over HTTP, {books} books", count / several, "requests/s")
 
 
 if __name__ == "__main__":

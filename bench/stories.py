@@ -1,16 +1,20 @@
 #!/usr/bin/env python3
-"""Plays the cases of the program's tests by processes of the program, one for each line of a script, over a book in a file. Not part of the gate.
+"""Plays the cases of the program's tests by processes of the program, one for each line of a script, over a
+book in a file.
 
-Usage: bench/stories.py [--server] [PROGRAM]     (default: crates/whx12/out/whx12, which `rt run` in that folder leaves)
+Usage: bench/stories.py [--server] [PROGRAM]
+       (default: crates/whx12/out/whx12, which `rt run` in that folder leaves)
 
-The cases are those of crates/test_program/data (the files .cases of stories/ and scripts/); their form is told in crates/test_program/src/playing.rt. Each
-line of a script is a process that opens the book and closes it. What is printed and told and the exit status are compared; the status is 1
-where one differs.
+The cases are those of crates/test_program/data (the files .cases of stories/ and scripts/); their form
+is told in crates/test_program/src/playing.rt. Each line of a script is a process that opens the book and
+closes it. What is printed and told and the exit status are compared; the status is 1 where one differs.
 
-With --server each line that a server takes (send, count, pick, recount, stock, orders, outbox, open, depositors) is asked of a server of the book, which is
-started for it at the line's moment and then killed: the same texts, the same status.
+With --server each line that a server takes (send, count, pick, recount, stock, orders, outbox, open,
+depositors) is asked of a server of the book, which is started for it at the line's moment and then
+killed: the same texts, the same status.
 
-A case that has `explained` is played once more, each line with --explain: what is told then, but for the lines' numbers, which a script alone tells.
+A case that has `explained` is played once more, each line with --explain: what is told then, but for the
+lines' numbers, which a script alone tells.
 """
 import glob
 import os
@@ -19,13 +23,17 @@ import subprocess
 import sys
 import tempfile
 
-HERE = os.path.dirname(os.path.abspath(__file__))
+from lib import HERE, program_of, same
+
+RUN = {
+    "tier": "night",
+    "shows": "the cases of the program's tests, a process a line over books in files; through "
+             "servers",
+    "needs": ["program"],
+    "words": ["", "--server"],
+    "minutes": 6,
+}
 CASES = os.path.join(HERE, "..", "crates", "test_program", "data")
-
-
-def same(what, got, wanted):
-    if got != wanted:
-        sys.exit(f"{what}: wanted {wanted!r:.900}, got {got!r:.900}")
 
 
 def text_of(path):
@@ -107,7 +115,7 @@ def play(program, name, text, before, by_server, more=()):
 def main(words):
     by_server = "--server" in words
     words = [word for word in words if word != "--server"]
-    program = os.path.abspath(words[0] if words else os.path.join(HERE, "..", "crates", "whx12", "out", "whx12"))
+    program = program_of(words[0] if words else None)
     cases, runs, paths = 0, 0, sorted(glob.glob(f"{CASES}/stories/*.cases") + glob.glob(f"{CASES}/scripts/*.cases"))
     for path in paths:
         before, *texts = text_of(path).split("@case ")

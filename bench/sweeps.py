@@ -1,11 +1,14 @@
 #!/usr/bin/env python3
-"""Runs the tests of bench/sweeps: a worked day over a book in tables that is stopped at each call of its store, and more. Not part of the gate.
+"""Runs the tests of bench/sweeps: a worked day over a book in tables that is stopped at each call of its
+store, and more.
 
 Usage: bench/sweeps.py [--folder FOLDER]     (default: in a folder of its own, which is removed)
 
-The tests stand beside those of `test_calls` and use its worked example. In a copy of the crates their modules are laid into that crate, whose
-libraries are then those of a book in tables too, beside what `test_program` lays books of version 1 by (its laying.rt and version1.rt, and its texts as constants), and `rt ci test_calls` proves and runs it there, over the libraries that an `rt ci` of
-the repository kept on this machine. FOLDER/test_calls_tests is the program that ran, which bench/allocations.py takes.
+The tests stand beside those of `test_calls` and use its worked example. In a copy of the crates their
+modules are laid into that crate, whose libraries are then those of a book in tables too, beside what
+`test_program` lays books of version 1 by (its laying.rt and version1.rt, and its texts as constants),
+and `rt ci test_calls` proves and runs it there, over the libraries that an `rt ci` of the repository
+kept on this machine. FOLDER/test_calls_tests is the program that ran, which bench/allocations.py takes.
 The status is that of `rt ci`.
 """
 import glob
@@ -15,12 +18,18 @@ import subprocess
 import sys
 import tempfile
 
+from lib import HERE, TOP
 from stories import text_of
 
-HERE = os.path.dirname(os.path.abspath(__file__))
+RUN = {
+    "tier": "by hand",
+    "shows": "a worked day over a book in tables stopped, or crashed, at each call of its "
+             "store; books of version 1 at each call of their opening (sweeps/)",
+    "needs": ["rt"],
+    "minutes": 15,
+}
 # What earlier runs of `rt ci` on this machine kept.
 KEPT = "/opt/rattle-kept"
-TOP = os.path.dirname(HERE)
 CRATE = "test_calls"
 # What the tests use beside the libraries of `test_calls`.
 MORE = "books running sqlite sqlite_disk sqlite_trees"

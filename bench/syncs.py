@@ -1,13 +1,17 @@
 #!/usr/bin/env python3
-"""What a commit asks of the disk: syncs, writes and bytes, beside C SQLite's for the same statements. Not part of the gate.
+"""What a commit asks of the disk: syncs, writes and bytes, beside C SQLite's for the same statements.
 
-Usage: bench/syncs.py [--largest N] [PROGRAM]   (default: up to 100,000 entries; crates/whx12/out/whx12, which `rt run` in that folder leaves)
+Usage: bench/syncs.py [--largest N] [PROGRAM]
+       (default: up to 100,000 entries; crates/whx12/out/whx12, which `rt run` in that folder
+        leaves)
 
-It needs strace, cc and Debian's package libsqlite3-dev. A book is filled as by bench/books.py, whose 200 interchanges of one line (an advice and an
-order in turn) are given to the program as one `batch`, and given again, when all are known; bench/statements.c runs the same statements, a transaction
-for each. `strace` counts each process's calls that sync a file or write into one, and the bytes they write; what goes to a terminal isn't counted. What
-a process without commands does is taken off: its opening and, where the log is copied into the file at the end, its closing. Status 1 where a commit
-isn't synced once, or where the known ones write.
+It needs strace, cc and Debian's package libsqlite3-dev. A book is filled as by bench/books.py, whose 200
+interchanges of one line (an advice and an order in turn) are given to the program as one `batch`, and
+given again, when all are known; bench/statements.c runs the same statements, a transaction for each.
+`strace` counts each process's calls that sync a file or write into one, and the bytes they write; what
+goes to a terminal isn't counted. What a process without commands does is taken off: its opening and,
+where the log is copied into the file at the end, its closing. Status 1 where a commit isn't synced once,
+or where the known ones write.
 """
 import os
 import re
@@ -15,12 +19,18 @@ import subprocess
 import sys
 import tempfile
 
-HERE = os.path.dirname(os.path.abspath(__file__))
-sys.path.insert(0, HERE)
-import books  # noqa: E402
-import costs  # noqa: E402
-import register  # noqa: E402
+import books
+import costs
+import register
+from lib import HERE, figure, option, program_in
 
+RUN = {
+    "tier": "figures",
+    "shows": "what a commit asks of the disk: syncs, writes and bytes, beside C SQLite",
+    "needs": ["program", "C SQLite", "strace"],
+    "words": ["--largest 10000"],
+    "minutes": 1,
+}
 SIZES = [1000, 10_000, 100_000]
 CALL = re.compile(r"^(?:\d+ +)?(\w+)\((\d+).*= (\d+)$")
 SYNCS, WRITES = ("fsync", "fdatasync"), ("write", "pwrite64", "writev", "pwritev")
@@ -67,10 +77,10 @@ def of_sqlite(statements, book, work, folder):
 
 
 def main(words):
-    largest = int(words[words.index("--largest") + 1]) if "--largest" in words else SIZES[-1]
-    last = words[-1] if words and words[-1] != str(largest) else None
-    program = os.path.abspath(last or os.path.join(HERE, "..", "crates", "whx12", "out", "whx12"))
+    largest = option(words, "--largest", SIZES[-1])
+    program = program_in(words)
     wrong = False
+    figure("load", os.getloadavg()[0], "running")
     print(" entries depositors | whx12, new: syncs writes  bytes | known | C, new: syncs writes  bytes")
     for depositors in (1, 100):
         for entries in (size for size in SIZES if size <= largest):
@@ -81,7 +91,11 @@ def main(words):
                 work = books.Work(made)
                 new, known = of_program(program, book, work, folder)
                 theirs = of_sqlite(statements, book, work, folder)
-            print(f"{entries:8,d} {depositors:10d} | {new[0]:17.2f} {new[1]:6.1f} {new[2]:6.0f} | {known[1]:5.1f} | {theirs[0]:13.2f} {theirs[1]:6.1f} {theirs[2]:6.0f}", flush=True)
+            ours = f"{new[0]:17.2f} {new[1]:6.1f} {new[2]:6.0f} | {known[1]:5.1f}"
+            print(f"{entries:8,d} {depositors:10d} | {ours} | {theirs[0]:13.2f} {theirs[1]:6.1f} {theirs[2]:6.0f}", flush=True)
+            for whose, (syncs, _, size) in (("", new), ("C SQLite, ", theirs)):
+                figure(books.sized(f"{whose}syncs of a new command", depositors, entries), syncs, "syncs")
+                figure(books.sized(f"{whose}bytes written by a new command", depositors, entries), size / 1000, "KB")
             wrong = wrong or new[0] < 1 or any(known)
     return int(wrong)
 

@@ -1,27 +1,32 @@
 #!/usr/bin/env python3
-"""Reads a book with Debian's sqlite3 and compares every row of its eleven tables with rows that were worked out by hand. Not part of
-the gate.
+"""Reads a book with Debian's sqlite3 and compares every row of its eleven tables with rows that were worked
+out by hand.
 
 Usage: bench/tables.py [PROGRAM]     (default: crates/whx12/out/whx12, which `rt run` in that folder leaves)
 
-A day of ZZ-WHSE1 and its one depositor ZZ-ACME, a process for each command: an enrolment, an advice, its count, an order that wants
-more than there is, its pick, the acknowledgment of that; then an advice of two lots, of which one expires, its count, an order with an address, a pinned
-lot and an item of which nothing is left, and an advice that is still open. A refused count and an advice that comes twice leave
-no row. Besides rows it looks at the tables: STRICT, types, keys, which columns may be NULL, and what `stock` may not hold.
+A day of ZZ-WHSE1 and its one depositor ZZ-ACME, a process for each command: an enrolment, an advice, its
+count, an order that wants more than there is, its pick, the acknowledgment of that; then an advice of
+two lots, of which one expires, its count, an order with an address, a pinned lot and an item of which
+nothing is left, and an advice that is still open. A refused count and an advice that comes twice leave
+no row. Besides rows it looks at the tables: STRICT, types, keys, which columns may be NULL, and what
+`stock` may not hold.
 """
 import os
 import subprocess
 import sys
 import tempfile
 
-HERE = os.path.dirname(os.path.abspath(__file__))
+from lib import program_of, same
+
+RUN = {
+    "tier": "night",
+    "shows": "every row of the eleven tables of a worked day, read by sqlite3",
+    "needs": ["program", "sqlite3"],
+    "words": [""],
+    "minutes": 0.1,
+}
 AT = "2025-03-04T09:15"
 STAMP = "202503040915"
-
-
-def same(what, got, wanted):
-    if got != wanted:
-        sys.exit(f"{what}:\nwanted {wanted!r}\ngot    {got!r}")
 
 
 def sqlite(book, *words):
@@ -188,7 +193,7 @@ def try_to_spoil(book):
 
 
 def main(words):
-    program = os.path.abspath(words[0] if words else os.path.join(HERE, "..", "crates", "whx12", "out", "whx12"))
+    program = program_of(words[0] if words else None)
     with tempfile.TemporaryDirectory(prefix="whx12-tables-") as folder:
         book = f"{folder}/day.book"
         play(program, book)

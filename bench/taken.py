@@ -1,24 +1,27 @@
 #!/usr/bin/env python3
-"""Kills `take` again and again over one folder, and looks at what is left. Not part of the gate.
+"""Kills `take` again and again over one folder, and looks at what is left.
 
 Usage: bench/taken.py [--files N] [--rounds N] [--seed N] [PROGRAM]
        (default: 200 files, 50 kills of crates/whx12/out/whx12, which `rt run` in that folder leaves)
 
-A folder has random interchanges of two depositors, good ones and such as are accepted with faulty sets. `take` is started over it and ended by `kill -9` at a
-random moment, again and again, and at last runs to its end, at the same moment of the rules. Then:
+A folder has random interchanges of two depositors, good ones and such as are accepted with faulty sets.
+`take` is started over it and ended by `kill -9` at a random moment, again and again, and at last runs to
+its end, at the same moment of the rules. Then:
 
-  - each file's answer is the one that the second reading of the rules (bench/model.py) gives when each file is sent once, in the
-    order of the names, byte for byte; a file that gets no answer has none; and nothing else lies in the folder, where before the
-    end each kill may have left an answer that was being written;
+  - each file's answer is the one that the second reading of the rules (bench/model.py) gives when each
+    file is sent once, in the order of the names, byte for byte; a file that gets no answer has none; and
+    nothing else lies in the folder, where before the end each kill may have left an answer that was
+    being written;
   - stock and outbox are those of each file sent once: no order is there twice, and none is missing.
 
-Before that a folder of three files is taken twice at one moment: first the advice is `accepted`, then it is `stored`, and both times the other files are refused
-alike; the answers are the same bytes after the second time as after the first, that of the advice 265.
+Before that a folder of three files is taken twice at one moment: first the advice is `accepted`, then it
+is `stored`, and both times the other files are refused alike; the answers are the same bytes after the
+second time as after the first, that of the advice 265.
 
-After each kill sqlite3 says whether a copy of the files is sound. Where standard error is a terminal, `take` says how far it is. Status 1 where something differs; the folder is then kept.
+After each kill sqlite3 says whether a copy of the files is sound. Where standard error is a terminal,
+`take` says how far it is. Status 1 where something differs; the folder is then kept.
 """
 import os
-import pty
 import random
 import shutil
 import signal
@@ -27,24 +30,21 @@ import sys
 import tempfile
 import time
 
-HERE = os.path.dirname(os.path.abspath(__file__))
-sys.path.insert(0, HERE)
-import compare  # noqa: E402
-import model  # noqa: E402
-import tables  # noqa: E402
+import compare
+import tables
+from lib import Wrong, on_terminal, option, program_in, same
 
+RUN = {
+    "tier": "night",
+    "shows": "`take` killed again and again over one folder: each answer right, each file in "
+             "the book once",
+    "needs": ["program", "sqlite3"],
+    "words": [""],
+    "minutes": 0.5,
+}
 WHO = [b"ZZ-ACME", b"ZZ-BETA"]
 AT = "2025-03-04T09:15"
 compare.NUMBERS = [b"N%d" % n for n in range(1, 400)]
-
-
-class Wrong(Exception):
-    """What was found isn't what the rules give."""
-
-
-def same(what, got, wanted):
-    if got != wanted:
-        raise Wrong(f"{what}: wanted {wanted!r}, got {got!r}")
 
 
 class House:
@@ -115,18 +115,10 @@ class House:
 
 
 def watched(program, seed, folder):
-    """What `take` says of 120 files where standard error is a terminal, which puts CR before each LF."""
+    """What `take` says of 120 files where standard error is a terminal."""
     house = House(program, seed, folder, 120)
-    mine, its = pty.openpty()
-    words = [program, "take", house.inbox, "--at", AT, "--book", house.book]
-    ran = subprocess.run(words, stdout=subprocess.DEVNULL, stderr=its, check=False)
-    os.write(its, b"#")
-    told = b""
-    while not told.endswith(b"#"):
-        told += os.read(mine, 65536)
-    os.close(its)
-    os.close(mine)
-    same("what is said on a terminal", (ran.returncode, told), (0, b"\r100 of 120 files\r120 of 120 files\r\n#"))
+    status, _, shown = on_terminal([program, "take", house.inbox, "--at", AT, "--book", house.book])
+    same("what a terminal shows", (status, shown), (0, b"\r100 of 120 files\r120 of 120 files\r\n"))
 
 
 ADVICE = (b"ISA*00*          *00*          *ZZ*ACME           *ZZ*WHSE1          *250304*0915*U*00401*000000001*1*P*>~GS*AR*ACME*WHSE1*20250304*0915*1*X*004010~"
@@ -158,10 +150,8 @@ def taken_twice(program, folder):
 
 
 def main(words):
-    option = lambda name, default: int(words[words.index(name) + 1]) if name in words else default
-    files, rounds, seed = option("--files", 200), option("--rounds", 50), option("--seed", 1)
-    last = words[-1] if words and not words[-1].isdigit() and not words[-1].startswith("--") else None
-    program = os.path.abspath(last or os.path.join(HERE, "..", "crates", "whx12", "out", "whx12"))
+    files, rounds, seed = option(words, "--files", 200), option(words, "--rounds", 50), option(words, "--seed", 1)
+    program = program_in(words)
     folder = tempfile.mkdtemp(prefix="taken")
     try:
         with tempfile.TemporaryDirectory() as other:

@@ -1,42 +1,47 @@
 #!/usr/bin/env python3
-"""Checks that `verify` says ok of a book, and 43 of each book that differs from it in one cell or one row. Not part of the gate.
+"""Checks that `verify` says ok of a book, and 43 of each book that differs from it in one cell or one row.
 
 Usage: bench/verify.py [--commands N] [--seed N] [--measure N] [PROGRAM]
-       (default: 60 commands, crates/whx12/out/whx12, which `rt run` in that folder leaves; needs Debian's sqlite3)
+              (default: 60 commands, crates/whx12/out/whx12, which `rt run` in that folder leaves; needs
+           Debian's sqlite3)
 
-A book on disk takes random interchanges of two depositors and what clerks do; `verify` prints ok and the number of its entries. Then
-sqlite3 changes a copy of it: each column of each table, in up to three rows each; a row left out, and a row too many, of each table; a gap
-in the numbers of the entries; one byte of a text that went out. Of each copy `verify` must say: fault 43 NotThisBook, status 3, and leave
-the rows as they are. At last standard error is a terminal, on which `verify` says how far it is. Status 1 where something differs; the folder is then kept.
+A book on disk takes random interchanges of two depositors and what clerks do; `verify` prints ok and the
+number of its entries. Then sqlite3 changes a copy of it: each column of each table, in up to three rows
+each; a row left out, and a row too many, of each table; a gap in the numbers of the entries; one byte of
+a text that went out. Of each copy `verify` must say: fault 43 NotThisBook, status 3, and leave the rows
+as they are. At last standard error is a terminal, on which `verify` says how far it is. Status 1 where
+something differs; the folder is then kept.
 
---measure N also times `verify`, and tells its memory, over registers of 1,000, 10,000 .. up to N entries, of one depositor and of 100,
-whose rows bench/register.py writes without the program.
+--measure N also times `verify`, and tells its memory, over registers of 1,000, 10,000 .. up to N
+entries, of one depositor and of 100, whose rows bench/register.py writes without the program.
 """
 import os
-import pty
 import random
+import resource
 import shutil
 import subprocess
 import sys
 import tempfile
 import time
 
-HERE = os.path.dirname(os.path.abspath(__file__))
-sys.path.insert(0, HERE)
-import books  # noqa: E402
-import compare  # noqa: E402
-import model  # noqa: E402
-import register  # noqa: E402
-import tables  # noqa: E402
+import books
+import compare
+import model
+import register
+import tables
+from lib import Wrong, figure, on_terminal, option, program_in, same
 
+RUN = {
+    "tier": "night",
+    "shows": "`verify` tells a book from each copy with another cell, row or byte",
+    "needs": ["program", "sqlite3"],
+    "words": [""],
+    "minutes": 1,
+}
 WHO = [b"ZZ-ACME", b"ZZ-BETA"]
 compare.NUMBERS = [b"N%d" % n for n in range(1, 60)]
 TABLES = ["book", "entry", "outgoing", "stock", "advice", "advice_line", "orders", "order_line", "reservation", "entry_rules",
           "lot_expiry"]
-
-
-class Wrong(Exception):
-    """What was found isn't what it must be."""
 
 
 class House:
@@ -107,14 +112,9 @@ def other(name, kind):
 
 
 def watched(house, entries):
-    """What `verify` says where standard error is a terminal, which puts CR before each LF."""
-    mine, its = pty.openpty()
-    ran = subprocess.run([house.program, "verify", "--book", house.book], stdout=subprocess.PIPE, stderr=its, check=False)
-    os.close(its)
-    told = (ran.returncode, ran.stdout, os.read(mine, 65536))
-    os.close(mine)
-    if told != (0, b"ok %s\n" % entries, b"\r%s of %s entries\r\n" % (entries, entries)):
-        raise Wrong(f"on a terminal: {told!r}")
+    """What `verify` says where standard error is a terminal."""
+    wanted = 0, b"ok %s\n" % entries, b"\r%s of %s entries\r\n" % (entries, entries)
+    same("what a terminal shows", on_terminal([house.program, "verify", "--book", house.book]), wanted)
 
 
 def measure(program, folder, largest):
@@ -128,21 +128,24 @@ def measure(program, folder, largest):
             process = subprocess.Popen([program, "verify", "--book", book], stdout=subprocess.PIPE, stderr=subprocess.PIPE)
             printed = process.stdout.read() + process.stderr.read()
             _, _, usage = os.wait4(process.pid, 0)
+            seconds = time.monotonic() - started
             process.stdout.close()
             process.stderr.close()
             if printed != f"ok {entries}\n".encode():
                 raise Wrong(f"{entries} entries of {depositors}: {printed!r}")
-            print(f"{entries:,} entries of {depositors}: {time.monotonic() - started:.2f} s, {usage.ru_maxrss // 1024} MiB, "
+            print(f"{entries:,} entries of {depositors}: {seconds:.2f} s, {usage.ru_maxrss // 1024} MiB, "
                   f"a file of {os.path.getsize(book) // 1024} KiB")
+            figure(books.sized("verify", depositors, entries), seconds, "s")
+            if usage.ru_maxrss > resource.getrusage(resource.RUSAGE_SELF).ru_maxrss:
+                # else it may be this process's own, of which the program's is a child
+                figure(books.sized("peak memory, verify", depositors, entries), usage.ru_maxrss / 1024, "MiB")
             os.remove(book)
             entries *= 10
 
 
 def main(words):
-    option = lambda name, default: int(words[words.index(name) + 1]) if name in words else default
-    commands, seed = option("--commands", 60), option("--seed", 1)
-    last = words[-1] if words and not words[-1].isdigit() and not words[-1].startswith("--") else None
-    program = os.path.abspath(last or os.path.join(HERE, "..", "crates", "whx12", "out", "whx12"))
+    commands, seed = option(words, "--commands", 60), option(words, "--seed", 1)
+    largest, program = option(words, "--measure", 0), program_in(words)
     folder = tempfile.mkdtemp(prefix="verified")
     cells = rows = 0
     try:
@@ -173,7 +176,7 @@ def main(words):
         if house.run("verify") != told:
             raise Wrong("the book itself, in the end")
         watched(house, entries.encode())
-        measure(program, folder, option("--measure", 0))
+        measure(program, folder, largest)
     except Wrong as wrong:
         print(f"{wrong}\nkept: {folder}")
         return 1

@@ -1,10 +1,13 @@
 #!/usr/bin/env python3
-"""Gives commands while the book is in use: each waits for it, as long as it is told to. Not part of the gate.
+"""Gives commands while the book is in use: each waits for it, as long as it is told to.
 
-Usage: bench/waiting.py [--processes N] [PROGRAM]   (default: 40 processes, crates/whx12/out/whx12, which `rt run` in that folder leaves)
+Usage: bench/waiting.py [--processes N] [PROGRAM]
+       (default: 40 processes, crates/whx12/out/whx12, which `rt run` in that folder leaves)
 
-  - Many processes enrol a depositor each, all at once: every one of them ends with 0, and each depositor is in the book once.
-  - A server has the book. A command with `--wait 1` is refused it after a second (44), one with `--wait 0` at once.
+  - Many processes enrol a depositor each, all at once: every one of them ends with 0, and each depositor
+    is in the book once.
+  - A server has the book. A command with `--wait 1` is refused it after a second (44), one with `--wait
+    0` at once.
   - A command that waits while the server ends is done then.
 
 The status is 1 where something is otherwise.
@@ -16,12 +19,17 @@ import sys
 import tempfile
 import time
 
-HERE = os.path.dirname(os.path.abspath(__file__))
+from lib import Wrong, free_port, option, program_in
+
+RUN = {
+    "tier": "night",
+    "shows": "commands wait for a book in use as long as they are told to; forty at once all "
+             "come in",
+    "needs": ["program"],
+    "words": [""],
+    "minutes": 0.5,
+}
 FAULT = b"fault 44 Device\n"
-
-
-class Wrong(Exception):
-    """What came isn't what must come."""
 
 
 def expect(what, is_so, *told):
@@ -39,12 +47,6 @@ def many_at_once(program, count):
     expect("a depositor isn't in the book", again == [b"refused 35 AlreadyEnrolled\n"] * count, again)
     checked = subprocess.run([program, "verify", "--book", "a.book"], capture_output=True, check=False)
     expect("the book isn't whole", checked.stdout == b"ok %d\n" % count, checked)
-
-
-def free_port():
-    with socket.socket() as it:
-        it.bind(("127.0.0.1", 0))
-        return it.getsockname()[1]
 
 
 def served(program):
@@ -78,9 +80,8 @@ def while_served(program):
 
 
 def main(words):
-    count = int(words[words.index("--processes") + 1]) if "--processes" in words else 40
-    last = words[-1] if words and not words[-1].isdigit() else None
-    program = os.path.abspath(last or os.path.join(HERE, "..", "crates", "whx12", "out", "whx12"))
+    count = option(words, "--processes", 40)
+    program = program_in(words)
     with tempfile.TemporaryDirectory(prefix="whx12-waiting-") as folder:
         os.chdir(folder)
         try:

@@ -1,14 +1,19 @@
 #!/usr/bin/env python3
-"""What a year of a mid-sized house comes to: 100 depositors, 200 interchanges a day each, on 250 days. Not part of the gate.
+"""What a year of a mid-sized house comes to: 100 depositors, 200 interchanges a day each, on 250 days.
 
-Usage: bench/year.py [--days 1,21,63,250] [--folder FOLDER] [PROGRAM]     (default: crates/whx12/out/whx12, which `rt run` in that folder leaves)
+Usage: bench/year.py [--days 1,21,63,250] [--folder FOLDER] [PROGRAM]
+       (default: crates/whx12/out/whx12, which `rt run` in that folder leaves)
 
-Books are made by `init` and filled, without the program, with the rows of the trade of register.py: half of the interchanges are advices, half are orders, and each is followed by a clerk's count or pick, so that a day has 40,000 entries. With --folder
-they stay there, a book for each number of days, and a later run takes those that it finds. Over each
+Books are made by `init` and filled, without the program, with the rows of the trade of register.py: half
+of the interchanges are advices, half are orders, and each is followed by a clerk's count or pick, so
+that a day has 40,000 entries. With --folder they stay there, a book for each number of days, and a later
+run takes those that it finds. Over each
 
-  - `stock` of a stranger is an opening, one query and a closing: what each command costs that opens the book by itself, and its peak memory;
-  - `serve` opens the book once, and is given 200 new interchanges of one line over loopback, and the same ones again; each must be answered as the register says. Printed are the time until it listens, the wall and the processor time of a
-    command, and the server's peak memory.
+  - `stock` of a stranger is an opening, one query and a closing: what each command costs that opens the
+    book by itself, and its peak memory;
+  - `serve` opens the book once, and is given 200 new interchanges of one line over loopback, and the
+    same ones again; each must be answered as the register says. Printed are the time until it listens,
+    the wall and the processor time of a command, and the server's peak memory.
 
 A year takes a quarter of an hour to fill and some 10 GB of disk. GNU time is needed.
 """
@@ -21,11 +26,17 @@ import sys
 import tempfile
 import time
 
-HERE = os.path.dirname(os.path.abspath(__file__))
-sys.path.insert(0, HERE)
-import books  # noqa: E402
-import register  # noqa: E402
+import books
+import register
+from lib import figure, free_port, once, program_of
 
+RUN = {
+    "tier": "figures",
+    "shows": "what a year of a mid-sized house comes to: file, opening, memory, a command's time",
+    "needs": ["program"],
+    "words": ["--days 1,21"],
+    "minutes": 3,
+}
 DEPOSITORS, A_DAY = 100, 40_000
 PART = 100_000
 TICK = os.sysconf("SC_CLK_TCK")
@@ -141,12 +152,12 @@ def spent(pid):
 
 def post(at, port, text):
     head = f"POST /x12 HTTP/1.1\r\nHost: {at}\r\nContent-Length: {len(text)}\r\n\r\n"
-    return books.http.once("127.0.0.1", port, (head + text).encode())
+    return once("127.0.0.1", port, (head + text).encode())
 
 
 def of_server(program, book, texts, answers):
     """Seconds until a server listens; wall and processor seconds of new commands and of the same ones again; and its peak memory."""
-    port = books.http.free_port()
+    port = free_port()
     at, told, begun = f"127.0.0.1:{port}", [], time.monotonic()
     words = [program, "serve", "--listen", at, "--count", "65535", *books.AT, "--book", book, "--explain"]
     with subprocess.Popen(words, stdout=subprocess.DEVNULL, stderr=subprocess.PIPE, text=True) as server:
@@ -176,6 +187,12 @@ def measure(program, book, days):
     listens, ((new, new_cpu), (known, known_cpu)), peak = of_server(program, book, texts, answers)
     print(f"| {days} | {entries:,} | {size / 1e6:,.0f} | {min(it[0] for it in openings):.2f} s | {max(it[2] for it in openings):,.0f} | {listens:.2f} s | {new * 1e3:.2f} ms | {new_cpu * 1e3:.2f} ms "
           f"| {known * 1e3:.2f} ms | {known_cpu * 1e3:.2f} ms | {peak:,.0f} |", flush=True)
+    after = f"after {days} day{'s' if days > 1 else ''}"
+    for what, value, unit in (("entries", entries, "entries"), ("file", size / 1e6, "MB"),
+                              ("opening", min(it[0] for it in openings), "s"),
+                              ("peak memory", max(it[2] for it in openings), "MiB"),
+                              ("new command", new_cpu * 1e3, "ms"), ("known command", known_cpu * 1e3, "ms")):
+        figure(f"year: {what} {after}", value, unit)
 
 
 def main(words):
@@ -186,8 +203,9 @@ def main(words):
     if "--folder" in words:
         at = words.pop(words.index("--folder") + 1)
         words.remove("--folder")
-    program = os.path.abspath(words[0] if words else os.path.join(HERE, "..", "crates", "whx12", "out", "whx12"))
+    program = program_of(words[0] if words else None)
     days = [int(it) for it in days.split(",")]
+    figure("load", os.getloadavg()[0], "running")
     with tempfile.TemporaryDirectory(prefix="whx12-year-") as made:
         books.look_at_rows(program, made)
         folder = at or made

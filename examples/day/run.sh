@@ -1,29 +1,44 @@
 #!/bin/sh
-# A day of the warehouse ZZ-HARBOR: each line of day.txt is a command of its own over the book in a file, which it opens and closes.
+# A day of the warehouse ZZ-HARBOR: each line of day.txt is a command of its own over the book in a file, which it opens
+# and closes.
 #
-# Usage: examples/day/run.sh [BOOK]     (default: a new file in a new folder, whose name is told at the end)
+# Usage: examples/day/run.sh [BOOK]       (default: a new file in a new folder, whose name is told at the end)
+#        examples/day/run.sh --crates     prints how many crates the program stands on, itself among them
 #
-# The program is proved and built first where it isn't there yet, which takes an hour or two, by the machine. Which crate is being proved, and how many
-# are proved by then, is told on standard error.
+# The program is proved and built first where it isn't there yet, which takes an hour or two, by the machine. Which crate
+# is being proved, and how many are proved by then, is told on standard error.
 set -eu
 cd "$(dirname "$0")"
 crates=../../crates
 program=$crates/whx12/out/whx12
 
-# The crate that is being proved, and how many are. A library that is proved has a stamp, and one that is begun a folder for it.
+# The names of the crates that the program stands on, by crates.txt.
+stood_on() {
+    awk -F: '!/^#/ && NF > 1 { below[$1] = $2 }
+        END {
+            left = "whx12"
+            while (split(left, names, " ") > 0) {
+                left = ""
+                for (at in names) if (names[at] in below && !(names[at] in seen)) {
+                    seen[names[at]]; print names[at]; left = left " " below[names[at]]
+                }
+            }
+        }' ../../crates.txt
+}
+
+# The crate that is being proved, and how many are. A library that is proved has a stamp, and one that is begun a folder
+# for it.
 progress() {
     proved=0
-    all=$(grep -c '^[a-z_0-9]*:' ../../crates.txt)
     now=whx12
-    for folder in "$crates"/*/out/rlib; do
-        if [ -e "$folder/stamp" ]; then
+    for crate in $names; do
+        if [ -e "$crates/$crate/out/rlib/stamp" ]; then
             proved=$((proved + 1))
-        elif [ -d "$folder" ]; then
-            now=$(basename "${folder%/out/rlib}")
+        elif [ -d "$crates/$crate/out/rlib" ]; then
+            now=$crate
         fi
     done
-    # The two crates of tests, that of their texts, and `stops` are no part of the program.
-    echo "proving $now; $proved of $((all - 4)) crates are proved"
+    echo "proving $now; $proved of $all crates are proved"
 }
 
 build() {
@@ -43,7 +58,16 @@ build() {
     rm "$log"
 }
 
-[ -x "$program" ] || build
+names=$(stood_on)
+all=$(echo "$names" | wc -l)
+if [ "${1:-}" = --crates ]; then
+    echo "$all"
+    exit
+fi
+if [ ! -x "$program" ]; then
+    ./kit.sh
+    build
+fi
 book=${1:-$(mktemp -d)/harbor.book}
 while read -r line; do
     # The words of a line are told apart by spaces, as in a script.

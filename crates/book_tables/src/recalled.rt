@@ -72,7 +72,7 @@ impl<S: Alter + Drop> Tables<S> {
     }
 
     /// A depositor's entry under a mark, with its number and the text that went out for it; None
-    /// where there is none.
+    /// where there is none. Four queries: its number, the entry, its rules and the text.
     pub fn known_of(&mut self, alloc: Global, who: Who, mark: &[u8]) -> Result<Option<Known>, Fault>
         ensures known { OfStanding S.Store self.old self.new
             (λ W L. IfOk result (λ known. IsRecalled known

@@ -327,8 +327,8 @@ pub fn tell_unready<R: Files + AllocGlobal, E: io::Write>(
 }
 
 /// Tells why a book refuses what a clerk did, where a line of the sheet is the reason, and not the
-/// ticket, which another deed has. The book stays as it is. What keeps it from being told is a fault
-/// of the book, want of memory, or `err`.
+/// ticket, which another deed has. The book stays as it is. What keeps it from being told is a
+/// fault of the book, want of memory, or `err`.
 pub fn tell_reason<K: Keeper, E: io::Write>(
     alloc: Global,
     book: &mut K,

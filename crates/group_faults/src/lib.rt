@@ -104,7 +104,7 @@ fn set_fault(group: &Group<'_>, set: &Set<'_>, is_repeated: bool) -> Option<u8>
 /// The codes of the faults of the envelopes of a group's sets (AK502), in the sets' order, each the
 /// first that holds of: 2 the set has no SE; 1 ST01 isn't the set that belongs to GS01; 7 ST02
 /// stood before in this group; 3 SE02 isn't ST02; 4 SE01 isn't the number of its segments. The
-/// error is want of memory.
+/// error is want of memory. `structure` doesn't give them, since a halted interchange needs none.
 pub fn set_faults(alloc: Global, group: &Group<'_>) -> Result<Vec<Option<u8>>, AllocError>
     ensures { IfOk result (λ v. v.items ≡ meant.envelope_faults group.now.group) }
 {

@@ -92,7 +92,8 @@ fn route_in<'p>(alloc: Global, path: &'p str) -> Result<Route<'p>, AllocError>
     Ok(route_at(*found.value, &found.params))
 }
 
-/// The route of a path: none where it isn't UTF-8. The one error is want of memory.
+/// The route of a path: none where it isn't UTF-8. The one error is want of memory. Each request
+/// makes its router anew: nothing is kept between connections.
 pub(crate) fn find_route<'p>(alloc: Global, path: &'p [u8]) -> Result<Route<'p>, AllocError>
     ensures { IfOk result (λ route. seen_route route ≡ route_of path.now) }
 {

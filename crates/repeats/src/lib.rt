@@ -1,7 +1,7 @@
 //! What a command is, what is kept of one that was accepted, and what it comes to when it is given
-//! again: the text that went out then, or its refusal. What a command needs of its depositor's page
-//! stands here too, and the words for the kinds of texts that go out. No page, no store and no clock
-//! are asked.
+//! again: the text that went out then, or its refusal. What a command needs of its depositor's
+//! page stands here too, and the words for the kinds of texts that go out. No page, no store and no
+//! clock are asked.
 #![tactic(auto)]
 
 mod acts;

@@ -83,7 +83,7 @@ fn append_held(out: &mut Vec<u8>, reserved: &[Goods], item: &[u8]) -> Result<(),
 }
 
 /// How much is short of a line of an order with these reservations: what is ordered, less what is
-/// reserved of its item.
+/// reserved of its item. Each reservation is taken from it, down to 0, so no sum can overflow.
 pub(crate) fn short_of(reserved: &[Goods], line: &KnownLine) -> u32
     ensures { result ≡ meant_short_of reserved.now line.now }
 {

@@ -25,7 +25,7 @@ use std::alloc::{AllocError, Global};
 use std::marker::Model;
 
 /// A book in memory, which keeps only the register and replays it. Nothing of it outlives the
-/// process.
+/// process. Whatever is needed, it hands out the whole page, which has that.
 #[derive(Drop)]
 pub struct ReplayBook {
     alloc: Global,

@@ -1,18 +1,23 @@
 #!/usr/bin/env python3
-"""Asks the server by curl, and measures it on loopback. Not part of the gate.
+"""Asks the server by curl, and measures it on loopback.
 
-Usage: bench/http.py [PROGRAM]        (default: crates/whx12/out/whx12, which `rt run` in that folder leaves)
-       bench/http.py --at HOST:PORT   (a server that runs already, over a new book of ZZ-WHSE1 with ZZ-ACME enrolled)
+Usage: bench/routes.py [PROGRAM]
+       (default: crates/whx12/out/whx12, which `rt run` in that folder leaves)
+              bench/routes.py --at HOST:PORT   (a server that runs already, over a new book of ZZ-WHSE1 with
+           ZZ-ACME enrolled)
 
-PROGRAM makes a book in a new folder and serves it: `init`, `enrol`, and `serve --listen 127.0.0.1:PORT --count N`. First each
-request of REQUESTS is sent by curl and its response compared, head and body, with what the rules of the house give; a date and
-a time that the clock gave are passed over. Then the same requests are sent over and over, a connection each and one after the
-other: the stock report of a depositor, and an interchange that was accepted before. Python's http.server serves a file of
-the report's bytes in the same way. Printed are requests a second, and the median and the 99th percentile of the time from the
-connection to its end. Then a peer is reset in the middle of its request, which is told as fault 44, and the server goes on; peers that send a body
-which nobody reads get their refusal all the same; and among 200 good peers 50 say nothing and 50 send a byte now and then: each of these is told as
-fault 44 after the patience of a second, and every good one is answered. A server whose book is removed, moved away or replaced by another file ends with
-fault 44 at the next connection, which it doesn't answer. The status is 1 where something differs.
+PROGRAM makes a book in a new folder and serves it: `init`, `enrol`, and `serve --listen 127.0.0.1:PORT
+--count N`. First each request of REQUESTS is sent by curl and its response compared, head and body, with
+what the rules of the house give; a date and a time that the clock gave are passed over. Then the same
+requests are sent over and over, a connection each and one after the other: the stock report of a
+depositor, and an interchange that was accepted before. Python's http.server serves a file of the
+report's bytes in the same way. Printed are requests a second, and the median and the 99th percentile of
+the time from the connection to its end. Then a peer is reset in the middle of its request, which is told
+as fault 44, and the server goes on; peers that send a body which nobody reads get their refusal all the
+same; and among 200 good peers 50 say nothing and 50 send a byte now and then: each of these is told as
+fault 44 after the patience of a second, and every good one is answered. A server whose book is removed,
+moved away or replaced by another file ends with fault 44 at the next connection, which it doesn't
+answer. The status is 1 where something differs.
 """
 import os
 import random
@@ -26,29 +31,35 @@ import tempfile
 import threading
 import time
 
-HERE = os.path.dirname(os.path.abspath(__file__))
+import lib
+from lib import figure, free_port, interchange, isa, knock, once, program_of
+
+RUN = {
+    "tier": "night",
+    "shows": "each route asked by curl; requests a second; peers that are reset, silent, slow "
+             "or not read to their end",
+    "needs": ["program", "curl"],
+    "words": [""],
+    "minutes": 2,
+}
 ROUNDS = 2000
+FIGURES = {"stock report": "stock report", "interchange, known": "known interchange",
+           "Python's http.server, a file": "Python's http.server, a file"}
 PLAIN, X12 = "text/plain", "application/EDI-X12"
 STOCK = ("item                 lot          expiry          expected         on hand        reserved         shipped\n"
          "BOLT                 L1                                100               0               0               0\n")
 
 
-def header(sender, receiver, control, wanted):
-    """ISA of 2025-03-04, 09:15."""
-    return (f"ISA*00*          *00*          *ZZ*{sender:15}*ZZ*{receiver:15}*250304*0915*U*00401*{control}*{wanted}*P*>~")
-
-
 def advice(quantity):
     """A 943 of one line under control number 1: 255 bytes."""
-    return (header("ACME", "WHSE1", "000000001", 1) + "GS*AR*ACME*WHSE1*20250304*0915*1*X*004010~ST*943*0001~"
-            f"W06*F*PO77*20250303*SHP1~W04*{quantity}*EA**SK*BOLT~N9*LT*L1~W03*{quantity}~SE*6*0001~GE*1*1~IEA*1*000000001~")
+    return interchange("AR", 1, lib.advice("SHP1", [(quantity, "BOLT", "L1")]), wants=1)
 
 
-ANSWER = (header("WHSE1", "ACME", "000000001", 0) + "TA1*000000001*250304*0915*A*000~"
+ANSWER = (isa("WHSE1", "ACME", 1) + "TA1*000000001*250304*0915*A*000~"
           "GS*FA*WHSE1*ACME*20250304*0915*1*X*004010~ST*997*0001~AK1*AR*1~AK2*943*0001~AK5*A~AK9*A*1*1*1~SE*6*0001~"
           "GE*1*1~IEA*1*000000001~")
-REFUSAL = header("WHSE1", "ACME", "000000000", 0) + "TA1*000000001*250304*0915*R*025~IEA*0*000000000~"
-ACKNOWLEDGMENT = (header("ACME", "WHSE1", "000000003", 0) + "GS*FA*ACME*WHSE1*20250304*0915*3*X*004010~ST*997*0001~"
+REFUSAL = isa("WHSE1", "ACME", 0) + "TA1*000000001*250304*0915*R*025~IEA*0*000000000~"
+ACKNOWLEDGMENT = (isa("ACME", "WHSE1", 3) + "GS*FA*ACME*WHSE1*20250304*0915*3*X*004010~ST*997*0001~"
                   "AK1*SW*4~AK2*945*0001~AK5*A~AK9*A*1*1*1~SE*6*0001~GE*1*3~IEA*1*000000003~")
 
 
@@ -100,16 +111,6 @@ def ask(address, words, body):
     return got.stdout.decode("latin-1")
 
 
-def once(host, port, request):
-    """One request on a connection of its own: the seconds that it took, and the response."""
-    start, pieces = time.perf_counter(), []
-    with socket.create_connection((host, port), 20) as stream:
-        stream.sendall(request)
-        while piece := stream.recv(65536):
-            pieces.append(piece)
-    return time.perf_counter() - start, b"".join(pieces)
-
-
 def measure(name, address, request, rounds):
     """Requests a second, and the times of the middle and of the slowest hundredth."""
     host, port = address.split(":")
@@ -119,25 +120,7 @@ def measure(name, address, request, rounds):
     whole = time.perf_counter() - start
     times.sort()
     print(f"{name:28} {rounds / whole:9.0f} a second   {times[rounds // 2] * 1e3:7.2f} ms   {times[rounds * 99 // 100] * 1e3:7.2f} ms")
-
-
-def free_port():
-    """A port that nobody listens on."""
-    with socket.socket() as one:
-        one.bind(("127.0.0.1", 0))
-        return one.getsockname()[1]
-
-
-def wait_for(address):
-    """Waits until somebody accepts; the connection counts as a request of the server."""
-    host, port = address.split(":")
-    for _ in range(200):
-        try:
-            socket.create_connection((host, int(port)), 1).close()
-            return
-        except OSError:
-            time.sleep(0.05)
-    sys.exit(f"nobody listens at {address}")
+    figure(f"{FIGURES[name]} over HTTP", rounds / whole, "requests/s")
 
 
 def compare(address):
@@ -155,6 +138,7 @@ def compare(address):
 def load(address, folder):
     """Times of the server, and of Python's own."""
     body = advice(100).encode()
+    figure("load", os.getloadavg()[0], "running")
     measure("stock report", address, b"GET /stock/ZZ-ACME HTTP/1.1\r\nHost: localhost\r\n\r\n", ROUNDS)
     measure("interchange, known", address, b"POST /x12 HTTP/1.1\r\nHost: localhost\r\nContent-Length: 255\r\n\r\n" + body, ROUNDS)
     with open(os.path.join(folder, "stock"), "w", encoding="ascii") as file:
@@ -163,7 +147,7 @@ def load(address, folder):
     python = subprocess.Popen([sys.executable, "-m", "http.server", "--bind", "127.0.0.1", "--directory", folder, str(port)],
                               cwd=folder, stdout=subprocess.DEVNULL, stderr=subprocess.DEVNULL)
     try:
-        wait_for(f"127.0.0.1:{port}")
+        knock(port)
         measure("Python's http.server, a file", f"127.0.0.1:{port}", b"GET /stock HTTP/1.1\r\nHost: localhost\r\n\r\n", ROUNDS)
     finally:
         python.terminate()
@@ -207,7 +191,7 @@ def is_told_why(program, book):
              (b"POST /x12 HTTP/1.1\r\nTransfer-Encoding: chunked\r\n\r\n" + large, b"501"), (b"POST /x12 HTTP/1.1\r\nX: " + large, b"400")]
     words = [program, "serve", *book, "--listen", address, "--count", str(1 + len(cases))]
     with subprocess.Popen(words, stdout=subprocess.PIPE, text=True) as server:
-        wait_for(address)
+        knock(address.split(":")[1])
         got = [once(host, int(port), request)[1][9:12] for request, _ in cases]
         server.communicate(timeout=20)
     good = got == [status for _, status in cases]
@@ -245,7 +229,7 @@ def ends_when_replaced(program, book):
             host, port = address.split(":")
             words = [program, "serve", "--book", file, "--listen", address, "--count", "9", "--explain"]
             with subprocess.Popen(words, stdout=subprocess.PIPE, stderr=subprocess.PIPE, text=True) as server:
-                wait_for(address)
+                knock(address.split(":")[1])
                 before = once(host, int(port), b"GET /stock/ZZ-ACME HTTP/1.1\r\nHost: localhost\r\n\r\n")[1][9:12]
                 change(file, other)
                 got = unanswered(host, int(port))
@@ -310,7 +294,7 @@ def outlasts_the_idle(program, book):
             answers.append((peer, peer(host, int(port))))
 
     with subprocess.Popen(words, stdout=subprocess.PIPE, text=True) as server:
-        wait_for(address)
+        knock(address.split(":")[1])
         threads = [threading.Thread(target=play, args=(peer,)) for peer in peers]
         for thread in threads:
             thread.start()
@@ -330,7 +314,7 @@ def wants_anyone(program, book):
     words = [program, "serve", *book, "--listen", f"0.0.0.0:{port}", "--count", "2"]
     without = subprocess.run(words, capture_output=True, text=True, timeout=20, check=False)
     with subprocess.Popen([*words, "--anyone"], stdout=subprocess.PIPE, text=True) as server:
-        wait_for(f"127.0.0.1:{port}")
+        knock(port)
         answer = asking("127.0.0.1", port)
         server.communicate(timeout=20)
     good = (without.returncode, without.stdout) == (2, "") and "--anyone" in without.stderr and answer.startswith(b"HTTP/1.1 200 ")
@@ -345,7 +329,7 @@ def main():
             good = compare(sys.argv[2])
             load(sys.argv[2], folder)
             sys.exit(0 if good else 1)
-        program = os.path.abspath(sys.argv[1] if len(sys.argv) > 1 else os.path.join(HERE, "../crates/whx12/out/whx12"))
+        program = program_of(sys.argv[1] if len(sys.argv) > 1 else None)
         book = ["--book", os.path.join(folder, "book")]
         for words in (["init", "ZZ-WHSE1"], ["enrol", "ZZ-ACME"]):
             subprocess.run([program, *words, *book, "--at", "2025-03-04T09:15"], check=True)
@@ -354,7 +338,7 @@ def main():
         server = subprocess.Popen([program, "serve", *book, "--listen", address, "--count", str(count)],
                                   stdout=subprocess.DEVNULL)
         try:
-            wait_for(address)
+            knock(address.split(":")[1])
             good = compare(address)
             load(address, folder)
         finally:

@@ -1,11 +1,14 @@
 #!/usr/bin/env python3
-"""Runs `rt ci` in a fresh clone on given processors, and tells where its time goes. Not part of the gate itself.
+"""Runs `rt ci` in a fresh clone on given processors, and tells where its time goes.
 
-Usage: bench/gate.py [--cpus 0,1] [--keep FOLDER] [--anew]     (default: processors 0 and 1, in a folder of its own, which is removed)
+Usage: bench/ci.py [--cpus 0,1] [--keep FOLDER] [--anew]
+       (default: processors 0 and 1, in a folder of its own, which is removed)
 
-The clone is of the last commit. With --anew nothing is taken that earlier runs on this machine kept, which is what a machine does that has seen none. Twice a second the processes of the run are looked at: each belongs to a crate, and to its proof,
-its tests, its must-fail edits or its builds. Printed are the run's own last lines, its wall time, its processor time, and a table
-of processor seconds crate by crate. The status is that of `rt ci`.
+The clone is of the last commit. With --anew nothing is taken that earlier runs on this machine kept,
+which is what a machine does that has seen none. Twice a second the processes of the run are looked at:
+each belongs to a crate, and to its proof, its tests, its must-fail edits or its builds. Printed are the
+run's own last lines, its wall time, its processor time, and a table of processor seconds crate by crate.
+The status is that of `rt ci`.
 """
 import collections
 import os
@@ -15,7 +18,15 @@ import sys
 import tempfile
 import time
 
-HERE = os.path.dirname(os.path.abspath(__file__))
+from lib import HERE, option
+
+RUN = {
+    "tier": "by hand",
+    "shows": "CI in a fresh clone on two processors: its minutes, and where they go crate by "
+             "crate",
+    "needs": ["rt"],
+    "minutes": 110,
+}
 TICK = os.sysconf("SC_CLK_TCK")
 KINDS = ["proof", "tests", "edits", "build"]
 
@@ -83,9 +94,9 @@ def keeps():
 
 def main():
     words = sys.argv[1:]
-    cpus = words[words.index("--cpus") + 1] if "--cpus" in words else "0,1"
-    kept = words[words.index("--keep") + 1] if "--keep" in words else None
-    with tempfile.TemporaryDirectory(prefix="whx12-gate-") as made:
+    cpus = option(words, "--cpus", "0,1")
+    kept = option(words, "--keep", None)
+    with tempfile.TemporaryDirectory(prefix="whx12-ci-") as made:
         clone = os.path.abspath(kept or f"{made}/clone")
         subprocess.run(["git", "clone", "-q", os.path.dirname(HERE), clone], check=True)
         log = f"{clone}.log"

@@ -1,0 +1,77 @@
+#!/usr/bin/env python3
+"""Whether each source is in its layout: the kit's formatter, lengths of lines, scripts that can be read.
+
+Usage: bench/layout.py
+
+Each .rt and .antt file is as `rattle fmt` lays it out, where the kit is there. A line of a .rt file has
+at most 100 characters, of a script 180, imports, attributes, lines with a text in quotes and the
+texts of tests (crates/cases) aside. Each
+Python script can be parsed, and each shell script by `sh -n`. No function is longer than 60 lines. What
+departs is told, and the status is 1.
+"""
+import ast
+import os
+import re
+import subprocess
+import sys
+
+from lib import TOP
+
+RUN = {
+    "tier": "quick",
+    "shows": "sources are in the formatter's layout; lines and functions have their lengths; scripts can be read",
+    "minutes": 0.1,
+}
+RATTLE = "/opt/rattle/bin/rattle"
+MOST_CODE, MOST_SCRIPT = 100, 180
+FREE = re.compile(r'^\s*(pub )?(ghost )?use |^\s*#!?\[|"')
+
+
+def tracked(*patterns):
+    """The files of the repository that fit, as paths from its top."""
+    said = subprocess.run(["git", "ls-files", *patterns], cwd=TOP, capture_output=True, text=True, check=True).stdout
+    return [path for path in said.splitlines() if os.path.isfile(f"{TOP}/{path}")]
+
+
+def long_lines(paths, most):
+    """Lines that are longer than they may be."""
+    for path in paths:
+        with open(f"{TOP}/{path}", encoding="utf-8") as file:
+            for at, line in enumerate(file, 1):
+                if len(line.rstrip("\n")) > most and not FREE.search(line):
+                    yield f"{path}:{at}: {len(line) - 1} characters"
+
+
+def unread_scripts():
+    """Scripts that can't be parsed."""
+    for path in [*tracked("bench/*.py"), "bench/run"]:
+        try:
+            with open(f"{TOP}/{path}", encoding="utf-8") as file:
+                ast.parse(file.read())
+        except SyntaxError as error:
+            yield f"{path}: {error}"
+    for path in [*tracked("*.sh"), ".ci/run"]:
+        ran = subprocess.run(["bash", "-n", path], cwd=TOP, capture_output=True, text=True, check=False)
+        if ran.returncode:
+            yield f"{path}: {ran.stderr.strip()}"
+
+
+def unformatted():
+    """Sources that the formatter would lay out otherwise."""
+    if os.path.exists(RATTLE):
+        paths = tracked("crates/*.rt", "crates/*.antt")
+        ran = subprocess.run([RATTLE, "fmt", "--check", *paths], cwd=TOP, capture_output=True, text=True, check=False)
+        if ran.returncode:
+            yield from (ran.stdout + ran.stderr).splitlines()[:20]
+
+
+def main():
+    code = [path for path in tracked("crates/*.rt") if not path.startswith("crates/cases/")]
+    wrong = [*long_lines(code, MOST_CODE), *long_lines(tracked("bench/*.py", "*.sh"), MOST_SCRIPT),
+             *unread_scripts(), *unformatted()]
+    print("\n".join(wrong) or f"{len(tracked('crates/*.rt', 'crates/*.antt'))} sources are in their layout")
+    return 1 if wrong else 0
+
+
+if __name__ == "__main__":
+    sys.exit(main())
