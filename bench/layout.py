@@ -29,8 +29,9 @@ FREE = re.compile(r'^\s*(pub )?(ghost )?use |^\s*#!?\[|"')
 
 def tracked(*patterns):
     """The files of the repository that fit, as paths from its top."""
-    said = subprocess.run(["git", "ls-files", *patterns], cwd=TOP, capture_output=True, text=True, check=True).stdout
-    return [path for path in said.splitlines() if os.path.isfile(f"{TOP}/{path}")]
+    words = ["git", "ls-files", "--cached", "--others", "--exclude-standard", *patterns]
+    said = subprocess.run(words, cwd=TOP, capture_output=True, text=True, check=True).stdout
+    return [path for path in sorted(set(said.splitlines())) if os.path.isfile(f"{TOP}/{path}")]
 
 
 def long_lines(paths, most):

@@ -31,8 +31,8 @@ RUN = {
     "tier": "night",
     "shows": "each allocation of each command, and of a server for each route, is refused in turn",
     "needs": ["program", "gcc"],
-    "words": [""],
-    "minutes": 30,
+    "words": ["--most 40"],
+    "minutes": 15,
 }
 AT = ["--at", "2025-03-04T09:15"]
 BOOK = ["--book", "book"]

@@ -43,7 +43,7 @@ RUN = {
     "words": [""],
     "minutes": 5,
 }
-PAGES = ["README.md", "docs/OPERATIONS.md", "docs/UPGRADING.md", "docs/PROFILE.md"]
+PAGES = ["README.md", "CONTRIBUTING.md", "docs/OPERATIONS.md", "docs/UPGRADING.md", "docs/PROFILE.md"]
 # What isn't given here, and why: how the command begins, and the reason.
 PASSED_OVER = [
     ("rt ci", "proves everything, which takes hours"),

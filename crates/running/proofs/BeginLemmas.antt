@@ -1,55 +1,71 @@
--- The book that a job begins with, and the faults of having it.
-use Rattle.std.proofs.Common.{◌≡◌, ◌≢◌, inl, inr, [], Result, Ok, Err, IfOk, IfErr, refl, ap, subst}
+-- The book that a job begins with, or why there is none.
+use Rattle.std.proofs.Common.{◌≡◌, ◌≢◌, [], true, refl, sym, ap, subst, ◌∙◌}
 use Rattle.sqlite.specs.Held.{Held, state}
-use Rattle.sqlite.specs.State.{HasCleanDisk}
+use Rattle.sqlite.specs.Schema.{Schema}
+use Rattle.sqlite.specs.State.{HasCleanDisk, Survives}
+use Rattle.sqlite.proofs.StateLemmas.{survives_weaker}
 use Rattle.sqlite.specs.Store.{Ghosts}
 use Rattle.profile.specs.Header.{Who}
 use Rattle.store.specs.Standing.{IsUsable}
 use Rattle.store.specs.Fault.{Fault}
+use Rattle.store.specs.Fault.TheVariants.{NotThisBook}
+use Rattle.book_statements.specs.Exits.{IsAsBefore}
 use Rattle.book_statements.specs.Faults.{IsOpeningFault}
+use Rattle.book_statements.specs.Kept.{Kept}
+use Rattle.book_statements.specs.Layout.{no_layout}
+use Rattle.book_statements.specs.Standing.{StandsIn}
+use Rattle.book_tables.specs.Taken.{has_book_table}
 use Rattle.books.specs.Opened.{Opened, standing_of}
-use Rattle.commands.specs.declared.told.CommandError.{CommandError}
-use Rattle.commands.specs.declared.told.CommandError.TheVariants as stop
-use Rattle.running.specs.Done.{IsBegun}
-use Rattle.running.specs.Faults.{IsBookFault, IsReadFault}
-use Rattle.running.specs.Opening.{IsOfFile, IsOpenedAnew}
+use Rattle.books.specs.Opening.{IsHandedBack, IsOpened}
+use Rattle.running.specs.Done.{IsBegun, IsNotBegun}
+use Rattle.running.specs.Opening.{IsNotMade, IsOfFile}
 use Rattle.running.specs.declared.over_file.Job.{Job}
 use Rattle.running.specs.declared.over_file.Job.TheVariants as job
 
--- a job that isn't a check
-abbrev IsOther : Job → Type 0
-IsOther job.Check = ⊥
-IsOther j = Unit {0}
-
-other : (j : Job) → IsOther j → j ≢ job.Check
-other j is e = subst IsOther e is
+none_named : has_book_table (let k = no_layout in k.tables) ≡ true → ⊥
+none_named e = cc
 
 module _ {S : Type 0} (store : Ghosts S) (database : Held S) where
   -- a book that is made is the one to begin with
-  pub begun_new : (W : Who) (r : Result (Opened S) CommandError) → IfOk r (λ b. HasCleanDisk (state store b.tables.conn) → IsUsable (standing_of store b) [])
-      → IfOk r (λ b. b.warehouse ≡ W) → IfOk r (IsBegun store database (job.Make W))
-  begun_new W (Ok b) usable named = λ clean. record { warehouse = named; usable = usable clean }
-  begun_new W (Err e) usable named = tt
+  pub begun_new : (W : Who) (b : Opened S) → (HasCleanDisk (state store b.tables.conn) → IsUsable (standing_of store b) []) → b.warehouse ≡ W → IsBegun store database (job.Make W) b
+  begun_new W b usable named = λ clean. record { warehouse = named; usable = usable clean }
 
   -- and one that is opened, for another job
-  pub begun_old : (j : Job) (r : Result (Opened S) CommandError) → ((W : Who) → j ≢ job.Make W) → (j ≡ job.Check → IfOk r (IsOpenedAnew store database))
-      → (j ≢ job.Check → IfOk r (IsOfFile store database)) → IfOk r (IsBegun store database j)
-  begun_old (job.Make W) r not anew found = absurd (not W refl)
-  begun_old (job.Change ready moment) r not anew found = found (other _ tt)
-  begun_old (job.Look asked) r not anew found = found (other _ tt)
-  begun_old (job.Play text) r not anew found = found (other _ tt)
-  begun_old (job.Listen service first has_clock file) r not anew found = found (other _ tt)
-  begun_old job.Check r not anew found = anew refl
+  of_file : (t : Kept S) (b : Opened S) → t.conn ≡ database → IsOpened store t b → IsOfFile store database b
+  of_file t b same ok = subst (λ (h : Held S). IsOfFile store h b) same (record {
+    clean = let still = ok.still in still.clean;
+    stood = λ clean q W L stands. record { warehouse = (ok.keeps clean q W L stands).0; usable = ok.usable clean q W L stands };
+  })
 
--- a fault of a book may be that of one that is read anew
-pub also_read : {T : Type 0} (r : Result T CommandError) → IfErr r IsBookFault → IfErr r IsReadFault
-also_read (Ok x) e = tt
-also_read (Err s) (inl e) = inl e
-also_read (Err s) (inr (inl e)) = inr (inl e)
-also_read (Err s) (inr (inr e)) = inr (inr (inl e))
+  pub begun_old : (j : Job) (t : Kept S) (b : Opened S) → ((W : Who) → j ≢ job.Make W) → t.conn ≡ database → IsOpened store t b → IsBegun store database j b
+  begun_old (job.Make W) t b not same ok = absurd (not W refl)
+  begun_old (job.Change ready moment) t b not same ok = of_file t b same ok
+  begun_old (job.Look asked) t b not same ok = of_file t b same ok
+  begun_old (job.Play text) t b not same ok = of_file t b same ok
+  begun_old (job.Listen service first has_clock file) t b not same ok = of_file t b same ok
+  begun_old job.Check t b not same ok = of_file t b same ok
 
--- a fault of an opening is told as one of a book
-pub opening_told : (f : Fault) → IsOpeningFault f → IsBookFault (stop.Fault f)
-opening_told f (inl e) = inl (ap stop.Fault e)
-opening_told f (inr (inl e)) = inr (inl (ap stop.Fault e))
-opening_told f (inr (inr e)) = inr (inr (ap stop.Fault e))
+  -- what is handed back where there is none
+  pub none_old : (j : Job) (t back : Kept S) (left : Held S) (f : Fault) → ((W : Who) → j ≢ job.Make W) → t.conn ≡ database → back.conn ≡ left → IsHandedBack store t f back
+      → IsNotBegun store database left j f
+  none_old (job.Make W) t back left f not same last why = absurd (not W refl)
+  none_old (job.Change ready moment) t back left f not same last why = record { tables = t; handed = back; before = same; after = last; why = why }
+  none_old (job.Look asked) t back left f not same last why = record { tables = t; handed = back; before = same; after = last; why = why }
+  none_old (job.Play text) t back left f not same last why = record { tables = t; handed = back; before = same; after = last; why = why }
+  none_old (job.Listen service first has_clock file) t back left f not same last why = record { tables = t; handed = back; before = same; after = last; why = why }
+  none_old job.Check t back left f not same last why = record { tables = t; handed = back; before = same; after = last; why = why }
+
+  -- why none was made in a database that held nothing
+  pub not_made : (W : Who) (t back : Kept S) (left : Held S) (f : Fault) → t.conn ≡ database → left ≡ back.conn → (state store database).now.schema ≡ no_layout
+      → (f ≡ NotThisBook → has_book_table ((state store t.conn).now.schema.tables) ≡ true)
+      → (HasCleanDisk (state store back.conn) → IsAsBefore (state store t.conn) (state store back.conn))
+      → Survives (state store t.conn) (state store back.conn) (λ db. (state store t.conn).now.schema ≡ no_layout → StandsIn W [] db)
+      → IsOpeningFault f → IsNotMade store database left W f
+  not_made W t back left f same last blank free before crash named =
+      let here : (state store t.conn).now.schema ≡ no_layout = subst (λ d. (state store d).now.schema ≡ no_layout) (sym same) blank in
+      subst (λ d. IsNotMade store d left W f) same (subst (λ l. IsNotMade store t.conn l W f) (sym last) (record {
+        taken = λ is. absurd (none_named (ap (λ (k : Schema). has_book_table k.tables) (sym here) ∙ free is));
+        before = λ _. before;
+        crash = λ _. survives_weaker _ _ _ _ (λ _ db stands. stands here) crash;
+        named = named;
+      }))

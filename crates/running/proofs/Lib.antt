@@ -1,5 +1,6 @@
 mod BeginLemmas
 mod StopLemmas
+mod FromFileLemmas
 mod LeftLemmas
 mod CrossLemmas
 mod AgainLemmas

@@ -1,14 +1,15 @@
 -- What a job over the book in a database comes to, from its opening to its closing.
-use Rattle.std.specs.Prelude.{◌≡◌, ℕ, List, [], Option, Some, None, Ok, Err}
+use Rattle.std.specs.Prelude.{◌≡◌, ◌⊎◌, ℕ, List, [], Option, Ok, Err}
 use Rattle.sqlite.specs.Held.{Held, state}
 use Rattle.sqlite.specs.State.{HasCleanDisk}
 use Rattle.sqlite.specs.Store.{Ghosts}
 use Rattle.store.specs.Standing.{IsUnchanged}
 use Rattle.books.specs.Opened.{Opened, standing_of}
 use Rattle.commands.specs.declared.told.CommandError.{CommandError}
+use Rattle.commands.specs.declared.told.CommandError.TheVariants as stopped
 use Rattle.commands.specs.declared.told.ExitStatus.{ExitStatus}
-use Rattle.running.specs.Faults.{IsReadFault}
-use Rattle.running.specs.Opening.{IsBookOf, IsOfFile, IsOpenedAnew}
+use Rattle.store.specs.Fault.{Fault}
+use Rattle.running.specs.Opening.{IsBookOf, IsNotMade, IsNotOpened, IsOfFile}
 use Rattle.running.specs.Working.{IsWork}
 use Rattle.running.specs.declared.over_file.Job.{Job}
 use Rattle.running.specs.declared.over_file.Job.TheVariants as job
@@ -17,8 +18,12 @@ use Rattle.running.specs.declared.over_file.Job.TheVariants as job
 abbrev pub IsBegun : {S : Type 0} → Ghosts S → Held S → Job → Opened S → Type 0
 IsBegun store database (job.Make warehouse) book =
     HasCleanDisk (state store book.tables.conn) → IsBookOf store book warehouse []
-IsBegun store database job.Check book = IsOpenedAnew store database book
 IsBegun store database other book = IsOfFile store database book
+
+-- why there is no book for a job, and what is left of the database
+abbrev pub IsNotBegun : {S : Type 0} → Ghosts S → Held S → Held S → Job → Fault → Type 0
+IsNotBegun store database back (job.Make W) fault = IsNotMade store database back W fault
+IsNotBegun store database back other fault = IsNotOpened store database back fault
 
 -- The book for the job was had, the job was done over it, once, and then nothing but why it was
 -- refused was asked, before the book's database was given back.
@@ -44,11 +49,18 @@ pub record IsJobBroken
   pub work : IsWork (standing_of store) contents opened before job worked later (Err stop)
   pub back : left ≡ worked.tables.conn
 
--- The job was stopped over its book, whose database is left; or there was no book to do it over,
--- and nothing was printed.
-abbrev pub IsJobStopped : {S W : Type 0} → Ghosts S → (W → Option (List ℕ)) → Held S
-    → Option (Held S) → Job → W → W → CommandError → Type 0
-IsJobStopped store contents database (Some left) job before later stop =
+-- There was no book to do the job over, and nothing was printed.
+pub record IsNoBook
+    {S W : Type 0} (store : Ghosts S) (database left : Held S) (job : Job) (before later : W)
+    (stop : CommandError) : Type 0 where
+  pub fault : Fault
+  pub told : stop ≡ stopped.Fault fault
+  pub why : IsNotBegun store database left job fault
+  pub printed : later ≡ before
+
+-- the job was stopped over its book, or there was no book to do it over
+abbrev pub IsJobStopped : {S W : Type 0} → Ghosts S → (W → Option (List ℕ)) → Held S → Held S
+    → Job → W → W → CommandError → Type 0
+IsJobStopped store contents database left job before later stop =
     IsJobBroken store contents database left job before later stop
-IsJobStopped store contents database None job before later stop =
-    IsReadFault stop × (later ≡ before)
+    ⊎ IsNoBook store database left job before later stop

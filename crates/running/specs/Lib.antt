@@ -3,6 +3,8 @@ pub mod Days
 pub mod Done
 pub mod Explaining
 pub mod Faults
+pub mod FromFile
+pub mod FileStops
 pub mod Opening
 pub mod Stopped
 pub mod StopFaults

@@ -1,21 +1,48 @@
 //! A book in a database checked whole: its tables are read anew, and compared with what its
 //! register gives.
-ghost use Rattle.std.specs.Prelude.{◌≡◌, false, IfOk, IsTrue};
+ghost use Rattle.std.specs.Prelude.{◌≡◌, false, IfErr, IfOk, IsTrue};
 ghost use Rattle.sqlite.specs.Held.{state};
 ghost use Rattle.sqlite.specs.State.{HasCleanDisk};
 ghost use Rattle.store.specs.Standing.{IsUnchanged};
 ghost use Rattle.books.specs.Opened.{standing_of};
 ghost use Rattle.books.specs.Verified.{CountsKept, OfTables, StandsChecked};
 ghost use Rattle.running.specs.Checking.{IsChecked, IsFoundWhole, TellsWhole};
+ghost use Rattle.running.specs.Faults.{IsReadFault};
+ghost use Rattle.running.specs.Opening.{IsOpenedAnew};
 
-use crate::book_files::close;
-use crate::over_file::{Job, open_watched};
-use books::Book;
+use crate::book_files::{close, fault};
+use crate::over_file::open_watched;
+use books::{Book, Tables};
 use commands::{CommandError, ExitStatus, Verbosity};
 use sqlite::{Alter, Connection};
 use std::alloc::Global;
 use std::io;
 use store::Fault;
+
+// Opens the book in a database that is in no transaction, to check it whole: its tables are read
+// and tested against their schema anew first, so that all that `Book::verify` asks of them is
+// known. Beyond the faults of an opening it is Device (44) where the file can't be read.
+fn open_anew<S: Alter + Drop, E: io::Write>(
+    alloc: Global,
+    database: Connection<S>,
+    verbosity: Verbosity,
+    err: &mut E,
+) -> Result<Book<S>, CommandError>
+    requires { database.in_transaction ≡ false }
+
+    ensures opened { IfOk result (λ b. b.shut ≡ false) }
+    ensures anew { IfOk result (IsOpenedAnew S.Store database) }
+    ensures named { IfErr result IsReadFault }
+{
+    let tables = match Tables::new(database).reopened(alloc) {
+        Ok(tables) => tables,
+        Err((error, _)) => return Err(CommandError::Fault(fault(&error))),
+    };
+    match open_watched(alloc, tables, verbosity, err) {
+        Ok(book) => Ok(book),
+        Err((fault, _)) => Err(CommandError::Fault(fault)),
+    }
+}
 
 // Checks a book whole, and says to somebody who watches how far it is until then.
 fn watched<S: Alter + Drop, E: io::Write>(
@@ -60,7 +87,7 @@ fn check<S: Alter + Drop, W: io::Write, E: io::Write>(
 
 /// Reads the tables of the book in a database anew, says how many entries it has where every table
 /// is what its register gives, and closes it. NotThisBook (43) where one isn't, or the tables are
-/// no book; the other faults are those of an opening and of a query.
+/// no book; the other faults are those of an opening, which `open_anew` tells, and of a query.
 pub(crate) fn check_over<S: Alter + Drop, W: io::Write, E: io::Write>(
     alloc: Global,
     database: Connection<S>,
@@ -73,7 +100,7 @@ pub(crate) fn check_over<S: Alter + Drop, W: io::Write, E: io::Write>(
     ensures whole { IfOk result (λ r. HasCleanDisk (state S.Store r.1)
         → IsFoundWhole (state S.Store database) (W.contents out.old) (W.contents out.new)) }
 {
-    let mut book = open_watched(alloc, database, &Job::Check, verbosity, err)?;
+    let mut book = open_anew(alloc, database, verbosity, err)?;
     let status = check(&mut book, verbosity, out, err)?;
     Ok((status, close(book)))
 }

@@ -1,32 +1,27 @@
 //! What a line says, done over the book in a file: words are tested and files read before the book
 //! is opened, and it is closed before the line is done.
-ghost use Rattle.std.specs.Prelude.{◌≡◌, ◌≢◌, ◌≤◌, false, IfErr, IfOk};
-ghost use Rattle.sqlite.specs.Held.{state};
-ghost use Rattle.sqlite.specs.State.{HasCleanDisk};
+ghost use Rattle.std.specs.Prelude.{◌≡◌, ◌≤◌, false, IfErr, IfOk};
 ghost use Rattle.store.specs.Standing.{IsUnchanged};
+ghost use Rattle.books.specs.Opening.{IsHandedBack, IsOpened};
 ghost use Rattle.commands.specs.Stops.{fault_in};
-ghost use Rattle.running.specs.Checking.{IsFoundWhole};
-ghost use Rattle.running.specs.Done.{IsBegun, IsJobDone, IsJobStopped};
-ghost use Rattle.running.specs.Faults.{IsBookFault, IsReadFault};
-ghost use Rattle.running.specs.Opening.{IsOfFile, IsOpenedAnew};
+ghost use Rattle.running.specs.Done.{IsBegun, IsJobDone, IsJobStopped, IsNotBegun};
 ghost use Rattle.running.specs.Working.{IsJobFor, IsNoJobFor, IsWork};
 
-use crate::book_files::{close, disconnect, fault, is_in_use, make, open, open_anew};
-use crate::checking::check_over;
-use books::Book;
+use crate::book_files::{close, disconnect, fault, is_in_use, make};
+use crate::from_file::{FileStop, do_from};
+use books::{Book, Tables};
 use command_line::{Service, Task};
 use commands::{
     CommandError, ExitStatus, Look, Ready, ServedFile, Verbosity, about_book, about_missing,
     about_opening, about_use, ask, moment_for, perform, play_over, read_lines, ready_at, serve,
     show, tell_reason, tell_unready,
 };
-use sqlite::{Alter, Connection, FileStore};
-use sqlite_disk::Disk;
+use sqlite::{Alter, Connection, Unknown};
 use std::alloc::Global;
 use std::rt::{Clock, Files};
 use std::time::Duration;
 use std::{fs, io, thread};
-use store::{Keeper, Moment, Refusal, Warehouse, Who};
+use store::{Fault, Keeper, Moment, Refusal, Warehouse, Who};
 
 // What is to be done over a book, its words tested and its files read.
 #[derive(Drop)]
@@ -68,51 +63,22 @@ fn work<K: Keeper, W: io::Write, E: io::Write>(
     }
 }
 
-// Opens the book in a database for a job; of a book of version 1 `told` is handed how many entries
-// are carried over of how many. Its faults are those of `open`, and of a check those of
-// `open_anew`.
-fn open_for<S: Alter + Drop, T: FnMut(u64, u64)>(
-    alloc: Global,
-    database: Connection<S>,
-    job: &Job<'_>,
-    told: T,
-) -> Result<Book<S>, CommandError>
-    requires free { database.in_transaction ≡ false }
-    requires told { T.IsAlwaysCallable told }
-
-    ensures anew { job.now ≡ Job.Check → IfOk result (IsOpenedAnew S.Store database) }
-    ensures found { job.now ≢ Job.Check → IfOk result (IsOfFile S.Store database) }
-    ensures named { IfErr result IsReadFault }
-    ensures book { job.now ≢ Job.Check → IfErr result IsBookFault }
-{
-    match job {
-        Job::Check => open_anew(alloc, database, told),
-        _ => open(alloc, database, told),
-    }
-}
-
-/// Opens the book in a database for a job, and says to somebody who watches how far a book of
-/// version 1 is carried over. To be checked, its tables are read anew. Its faults are those of
-/// `open`, and of a check those of `open_anew`.
+/// Opens the book in a database, and says to somebody who watches how far a book of version 1 is
+/// carried over. A fault hands its tables back, as `Book::open_from` does.
 pub(crate) fn open_watched<S: Alter + Drop, E: io::Write>(
     alloc: Global,
-    database: Connection<S>,
-    job: &Job<'_>,
+    tables: Tables<S>,
     verbosity: Verbosity,
     err: &mut E,
-) -> Result<Book<S>, CommandError>
-    requires { database.in_transaction ≡ false }
-
-    ensures anew { job.now ≡ Job.Check → IfOk result (IsOpenedAnew S.Store database) }
-    ensures found { job.now ≢ Job.Check → IfOk result (IsOfFile S.Store database) }
-    ensures named { IfErr result IsReadFault }
-    ensures book { job.now ≢ Job.Check → IfErr result IsBookFault }
+) -> Result<Book<S>, (Fault, Tables<S>)>
+    ensures ok { IfOk result (IsOpened S.Store tables) }
+    ensures err { IfErr result (λ e. IsHandedBack S.Store tables e.0 e.1) }
 {
     if !verbosity.watches {
-        return open_for(alloc, database, job, |_, _| {});
+        return Book::open_from(alloc, tables);
     }
     let mut is_told = false;
-    let opened = open_for(alloc, database, job, |done, all| {
+    let opened = Book::open_from_telling(alloc, tables, |done, all| {
         is_told = true;
         verbosity.tell_progress(err, done, all, "entries carried over");
     });
@@ -122,22 +88,25 @@ pub(crate) fn open_watched<S: Alter + Drop, E: io::Write>(
     opened
 }
 
-// Opens the book in a database, or makes it where that is the job.
+// Opens the book in a database, or makes it where that is the job. A fault hands the database back.
 fn begin<S: Alter + Drop, E: io::Write>(
     alloc: Global,
     database: Connection<S>,
     job: &Job<'_>,
     verbosity: Verbosity,
     err: &mut E,
-) -> Result<Book<S>, CommandError>
+) -> Result<Book<S>, (Fault, Connection<S>)>
     requires { database.in_transaction ≡ false }
 
     ensures begun { IfOk result (IsBegun S.Store database job.now) }
-    ensures named { IfErr result IsReadFault }
+    ensures none { IfErr result (λ e. IsNotBegun S.Store database e.1 job.now e.0) }
 {
     match job {
         Job::Make(warehouse) => make(alloc, database, *warehouse),
-        _ => open_watched(alloc, database, job, verbosity, err),
+        _ => match open_watched(alloc, Tables::new(database), verbosity, err) {
+            Ok(book) => Ok(book),
+            Err((fault, tables)) => Err((fault, tables.into_inner())),
+        },
     }
 }
 
@@ -161,64 +130,33 @@ fn explain<K: Keeper, E: io::Write>(
     }
 }
 
-// Opens the book in a database, or makes it, does a job over it, and closes it; or checks it whole,
-// which isn't for a book of any kind. At a fault the database is handed back as it is, if the job
-// was begun.
-fn work_over<S: Alter + Drop, W: io::Write, E: io::Write>(
+/// Opens the book in a database, or makes it, does a job over it, and closes it. At a fault the
+/// database is handed back as it is.
+pub(crate) fn work_over<S: Alter + Drop, W: io::Write, E: io::Write>(
     rt: &HostRuntime,
     database: Connection<S>,
     job: &Job<'_>,
     verbosity: Verbosity,
     out: &mut W,
     err: &mut E,
-) -> Result<(ExitStatus, Connection<S>), (CommandError, Option<Connection<S>>)>
+) -> Result<(ExitStatus, Connection<S>), (CommandError, Connection<S>)>
     requires { database.in_transaction ≡ false }
 
-    ensures whole { job.now ≡ Job.Check → IfOk result (λ r. HasCleanDisk (state S.Store r.1)
-        → IsFoundWhole (state S.Store database) (W.contents out.old) (W.contents out.new)) }
-    ensures done { job.now ≢ Job.Check → IfOk result
+    ensures done { IfOk result
         (λ r. IsJobDone S.Store W.contents database r.1 job.now out.old out.new r.0) }
-    ensures stopped { job.now ≢ Job.Check → IfErr result
+    ensures stopped { IfErr result
         (λ e. IsJobStopped S.Store W.contents database e.1 job.now out.old out.new e.0) }
 {
-    if let Job::Check = job {
-        return match check_over(rt.alloc(), database, verbosity, out, err) {
-            Ok(checked) => Ok(checked),
-            Err(stop) => Err((stop, None)),
-        };
-    }
     let mut book = match begin(rt.alloc(), database, job, verbosity, err) {
         Ok(book) => book,
-        Err(stop) => return Err((stop, None)),
+        Err((fault, database)) => return Err((CommandError::Fault(fault), database)),
     };
     match work(rt, &mut book, job, verbosity, out, err) {
         Ok(status) => {
             explain(rt.alloc(), &mut book, job, status, verbosity, err);
             Ok((status, close(book)))
         }
-        Err(stop) => Err((stop, Some(close(book)))),
-    }
-}
-
-// Does a job over the book in a database on any disk, and closes the database. At a fault it is let
-// go as it is: its log has all that was answered, and nothing more is written to a store that has
-// just failed.
-fn over_disk<D: Disk + Drop, W: io::Write, E: io::Write>(
-    rt: &HostRuntime,
-    database: Connection<FileStore<D>>,
-    job: &Job<'_>,
-    verbosity: Verbosity,
-    out: &mut W,
-    err: &mut E,
-) -> Result<ExitStatus, CommandError>
-    requires { database.in_transaction ≡ false }
-{
-    match work_over(rt, database, job, verbosity, out, err) {
-        Ok((status, database)) => {
-            disconnect(database)?;
-            Ok(status)
-        }
-        Err((stop, _)) => Err(stop),
+        Err(stop) => Err((stop, close(book))),
     }
 }
 
@@ -240,8 +178,10 @@ fn looks_of(wait: Option<u16>) -> u32
     1 + u32::from(seconds) * LOOKS_A_SECOND
 }
 
-// Does a job over the book in a file, of which it is known whether it is there. This function alone
-// names a database on disk.
+// Does a job over the book in a file, of which it is known whether it is there, and closes it. At a
+// fault it is let go as it is: its log has all that was answered, and nothing more is written to a
+// store that has just failed. This function alone names a database on disk, and supposes of the
+// file that a torn write leaves each byte old or new (`Unknown`).
 fn over<W: io::Write, E: io::Write>(
     rt: &HostRuntime,
     file: &str,
@@ -255,12 +195,16 @@ fn over<W: io::Write, E: io::Write>(
         if look > 0 {
             thread::sleep(rt, Duration::from_millis(1_000 / u64::from(LOOKS_A_SECOND)));
         }
-        match Connection::open(rt, file) {
-            Ok(database) => return over_disk(rt, database, job, verbosity, out, err),
-            Err(error) if !is_in_use(&error) => {
+        match do_from(rt, file, Unknown, job, verbosity, out, err) {
+            Ok((status, database)) => {
+                disconnect(database)?;
+                return Ok(status);
+            }
+            Err(FileStop::Stopped(stop)) => return Err(stop),
+            Err(FileStop::Unopened(error)) if !is_in_use(&error) => {
                 return Err(about_opening(rt.alloc(), file, fault(&error)));
             }
-            Err(_) => {}
+            Err(FileStop::Unopened(_)) => {}
         }
     }
     Err(about_use(rt.alloc(), file))

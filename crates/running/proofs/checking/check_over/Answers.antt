@@ -1,4 +1,4 @@
-use Rattle.std.proofs.Common.{◌≡◌, refl, sym, subst, arith, IsTrue}
+use Rattle.std.proofs.Common.{◌≡◌, sym, subst, arith, IsTrue}
 use Rattle.sqlite.specs.Effect.{Database}
 use Rattle.sqlite.specs.Held.{state}
 use Rattle.sqlite.specs.State.{HasCleanDisk}
@@ -15,7 +15,7 @@ returns g c = record {
       let goes = checked.same.goes in
       let clean' : HasCleanDisk (state g.S.Store c.check.new.book.tables.conn) = subst (λ k. HasCleanDisk (state g.S.Store k)) c.close.ensures clean in
       let was : HasCleanDisk opened = omega (arith, goes.doubt, clean') in
-      let anew = c.in_ok-book.ensures.anew refl was in
+      let anew = c.in_ok-book.ensures.anew was in
       record {
         read = anew.read;
         sound = anew.sound;

@@ -1,9 +1,10 @@
+use Rattle.std.proofs.Common.{inl}
 use Rattle.running.proofs.over_file.work_over.Goals as goal
 
 pub returns-in-Ok-work-clause-done : goal.returns-in-Ok-work-clause-done
-returns-in-Ok-work-clause-done g c = λ no_check. record {
-  opened = c.in-Ok-begin.book;
-  begun = c.in-Ok-begin.ensures.begun;
+returns-in-Ok-work-clause-done g c = record {
+  opened = c.in-Ok.book;
+  begun = c.in-Ok.ensures.begun;
   worked = c.work.new.book;
   work = c.in-Ok-work.ensures.worked;
   closed = c.explain.new.book;
@@ -12,10 +13,10 @@ returns-in-Ok-work-clause-done g c = λ no_check. record {
 }
 
 pub returns-in-Err-work-clause-stopped : goal.returns-in-Err-work-clause-stopped
-returns-in-Err-work-clause-stopped g c = λ no_check. record {
-  opened = c.in-Ok-begin.book;
-  begun = c.in-Ok-begin.ensures.begun;
+returns-in-Err-work-clause-stopped g c = inl (record {
+  opened = c.in-Ok.book;
+  begun = c.in-Ok.ensures.begun;
   worked = c.work.new.book;
   work = c.in-Err-work.ensures.worked;
   back = c.close-in-Err-work.ensures;
-}
+})

@@ -1,12 +1,12 @@
 use Rattle.std.proofs.Common.{ap, ◌∙◌, arith}
 use Rattle.sqlite.specs.Held.{state}
 use Rattle.sqlite.specs.State.{HasCleanDisk}
-use Rattle.running.proofs.book_files.open_anew.Goals as goal
+use Rattle.running.proofs.checking.open_anew.Goals as goal
 
-pub returns-in-Ok-open_from_telling-clause-anew : goal.returns-in-Ok-open_from_telling-clause-anew
-returns-in-Ok-open_from_telling-clause-anew g c = λ clean.
+pub returns-in-Ok-open_watched-clause-anew : goal.returns-in-Ok-open_watched-clause-anew
+returns-in-Ok-open_watched-clause-anew g c = λ clean.
     let t = state g.S.Store c.in-Ok.tables.conn in
-    let still = c.in-Ok-open_from_telling.ensures.ok.still in
+    let still = c.in-Ok-open_watched.ensures.ok.still in
     let fresh : HasCleanDisk t = omega (arith, still.clean, clean) in
     record {
       read = t.now;

@@ -1,0 +1,89 @@
+-- What a job over a database says of the files that the database was opened from.
+use Rattle.std.proofs.Common.{◌≤◌, ℕ, List, Option, refl, sym, ap, subst, ◌∙◌, arith}
+use Rattle.sqlite.specs.Held.{Held, state}
+use Rattle.sqlite.specs.Recovery.{Image}
+use Rattle.sqlite.specs.Start.{FindsIn}
+use Rattle.sqlite.specs.State.{State, HasCleanDisk, Opens, IsLive}
+use Rattle.sqlite.specs.Effect.{Database}
+use Rattle.sqlite.specs.Store.{Ghosts}
+use Rattle.sqlite_trees.specs.View.{doubt}
+use Rattle.profile.specs.declared.rules.Rules.{Rules}
+use Rattle.profile.specs.Header.{Who}
+use Rattle.profile.specs.Register.{Entry}
+use Rattle.book_statements.specs.Carrying.{StandsInAs, StandsOpenAs}
+use Rattle.books.specs.Opened.{Opened, standing_of}
+use Rattle.commands.specs.Acting.{Ending}
+use Rattle.commands.specs.declared.told.CommandError.{CommandError}
+use Rattle.commands.specs.declared.told.ExitStatus.{ExitStatus}
+use Rattle.running.specs.Done.{IsBegun, IsNotBegun, IsJobDone, IsJobStopped}
+use Rattle.running.specs.FromFile.{HoldsBook, IsOfBook, IsDoneFrom, IsStoppedFrom}
+use Rattle.running.specs.Opening.{IsNotOpened, IsOfFile}
+use Rattle.running.specs.Working.{IsWork}
+use Rattle.running.specs.declared.over_file.Job.{Job}
+use Rattle.running.specs.declared.over_file.Job.TheVariants as job
+use Rattle.running.proofs.StopLemmas.{stands_as_read}
+
+-- the database that files open as stands for the book that they held
+pub stands_found : (image : Image) (s : State) (q : Rules) (W : Who) (L : List Entry) → Opens s × IsLive s → FindsIn image s → HoldsBook image q W L → StandsOpenAs q s W L
+stands_found image s q W L opens found held = λ opened.
+    let trees = ap (λ (d : Database). d.trees) opens.0.clean ∙ found.holds held.db held.held in
+    stands_as_read q W L _ _ (opens.1 opened).0 (subst (StandsInAs q W L) (sym trees) held.stands)
+
+module _ {S W : Type 0} (store : Ghosts S) (contents : W → Option (List ℕ)) where
+  -- work makes no disk clean
+  work_goes : (j : Job) (old new : Opened S) (before later : W) (ending : Ending) → IsWork (standing_of store) contents old before j new later ending
+      → doubt (state store old.tables.conn).is_clean ≤ doubt (state store new.tables.conn).is_clean
+  work_goes (job.Change ready moment) old new before later ending h = h.0.doubt
+  work_goes (job.Look asked) old new before later ending h = let same = h.same in let goes = same.goes in goes.doubt
+  work_goes (job.Play text) old new before later ending h = h.0.doubt
+  work_goes (job.Listen service first has_clock file) old new before later ending h = h.0.doubt
+  work_goes (job.Make house) old new before later ending h = subst (λ (b : Opened S). doubt (state store old.tables.conn).is_clean ≤ doubt (state store b.tables.conn).is_clean) (sym h.0) (omega arith)
+  work_goes job.Check old new before later ending h = subst (λ (b : Opened S). doubt (state store old.tables.conn).is_clean ≤ doubt (state store b.tables.conn).is_clean) (sym h.0) (omega arith)
+
+  -- a job over a book that is there is over the one that is opened
+  of_file : (j : Job) (database : Held S) (b : Opened S) → IsOfBook j → IsBegun store database j b → IsOfFile store database b
+  of_file (job.Make house) database b of h = absurd (of house refl)
+  of_file (job.Change ready moment) database b of h = h
+  of_file (job.Look asked) database b of h = h
+  of_file (job.Play text) database b of h = h
+  of_file (job.Listen service first has_clock file) database b of h = h
+  of_file job.Check database b of h = h
+
+  not_opened : (j : Job) (database left : Held S) (f : _) → IsOfBook j → IsNotBegun store database left j f → IsNotOpened store database left f
+  not_opened (job.Make house) database left f of h = absurd (of house refl)
+  not_opened (job.Change ready moment) database left f of h = h
+  not_opened (job.Look asked) database left f of h = h
+  not_opened (job.Play text) database left f of h = h
+  not_opened (job.Listen service first has_clock file) database left f of h = h
+  not_opened job.Check database left f of h = h
+
+  module _ (image : Image) (database left : Held S) (opens : HasCleanDisk (state store database) → Opens (state store database) × IsLive (state store database))
+      (found : HasCleanDisk (state store database) → FindsIn image (state store database)) (j : Job) (before later : W) where
+    pub done_from : (status : ExitStatus) → IsJobDone store contents database left j before later status → IsDoneFrom store contents image left j before later status
+    done_from status d = record {
+      database = database;
+      done = d;
+      book = λ of clean q W L held.
+          let last : HasCleanDisk (state store d.closed.tables.conn) = subst (λ h. HasCleanDisk (state store h)) d.back clean in
+          let goes = d.same.goes in
+          let after = goes.doubt in
+          let at = work_goes j d.opened d.worked before later _ d.work in
+          let first : HasCleanDisk (state store d.opened.tables.conn) = omega (arith, after, at, last) in
+          let file = of_file j database d.opened of d.begun in
+          let early : HasCleanDisk (state store database) = omega (arith, file.clean, first) in
+          file.stood first q W L (stands_found image _ q W L (opens early) (found early) held);
+    }
+
+    pub stopped_from : (stop : CommandError) → IsJobStopped store contents database left j before later stop → IsStoppedFrom store contents image left j before later stop
+    stopped_from stop s = record {
+      database = database;
+      stopped = s;
+      this = λ no of clean q W L held.
+          let is = not_opened j database left no.fault of no.why in
+          let why = is.why in
+          let handed : HasCleanDisk (state store is.handed.conn) = subst (λ h. HasCleanDisk (state store h)) (sym is.after) clean in
+          let opening = why.asked in
+          let first : HasCleanDisk (state store is.tables.conn) = omega (arith, opening.clean, handed) in
+          let early : HasCleanDisk (state store database) = subst (λ h. HasCleanDisk (state store h)) is.before first in
+          why.this handed q W L (subst (λ h. StandsOpenAs q (state store h) W L) (sym is.before) (stands_found image _ q W L (opens early) (found early) held));
+    }

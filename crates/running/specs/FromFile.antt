@@ -1,0 +1,69 @@
+-- A job over the book in files, from what the files held as they were opened.
+use Rattle.std.specs.Prelude.{◌≡◌, ◌≢◌, ◌<◌, ℕ, List, Option, None, IfSome}
+use Rattle.sqlite.specs.declared.error.Error.{Error}
+use Rattle.sqlite.specs.declared.file.Leftover.{Leftover}
+use Rattle.sqlite_disk.specs.declared.Disk.{Ghosts as Disks}
+use Rattle.sqlite.specs.Files.{HoldsDatabase, IsCleanLeft, faults_left}
+use Rattle.sqlite.specs.Held.{Held, state}
+use Rattle.sqlite.specs.Recovery.{Image}
+use Rattle.sqlite.specs.State.{HasCleanDisk}
+use Rattle.sqlite.specs.Store.{Ghosts}
+use Rattle.sqlite.specs.Tree.{Trees}
+use Rattle.profile.specs.declared.rules.Rules.{Rules}
+use Rattle.profile.specs.Header.{Who}
+use Rattle.profile.specs.Register.{Entry}
+use Rattle.store.specs.Fault.TheVariants.{NotThisBook}
+use Rattle.book_statements.specs.Carrying.{StandsInAs}
+use Rattle.commands.specs.declared.told.CommandError.{CommandError}
+use Rattle.commands.specs.declared.told.ExitStatus.{ExitStatus}
+use Rattle.running.specs.Done.{IsJobDone, IsJobStopped, IsNoBook}
+use Rattle.running.specs.Faults.{fault_of}
+use Rattle.running.specs.Opening.{IsBookOf}
+use Rattle.running.specs.declared.over_file.Job.{Job}
+use Rattle.running.specs.declared.over_file.Job.TheVariants as job
+
+-- The files hold the book of a warehouse: they recover to a database whose tables stand for this
+-- register, in one of the two versions.
+pub record HoldsBook (image : Image) (q : Rules) (W : Who) (L : List Entry) : Type 0 where
+  pub db : Trees
+  pub held : HoldsDatabase image db
+  pub stands : StandsInAs q W L db
+
+-- what is so of each book that the files held, if no answer of the disk was wrong until now
+abbrev pub OfHeld : {S : Type 0} → Ghosts S → Image → Held S → (Who → List Entry → Type 0) → Type 0
+OfHeld store image now P = HasCleanDisk (state store now)
+    → (q : Rules) (W : Who) (L : List Entry) → HoldsBook image q W L → P W L
+
+-- a job over a book that is there already
+abbrev pub IsOfBook : Job → Type 0
+IsOfBook j = (W : Who) → j ≢ job.Make W
+
+-- The job was done, once, over the database in the files: over the book that these held, if the job
+-- isn't to make one.
+pub record IsDoneFrom
+    {S W : Type 0} (store : Ghosts S) (contents : W → Option (List ℕ)) (image : Image)
+    (left : Held S) (job : Job) (before later : W) (status : ExitStatus) : Type 0 where
+  pub database : Held S
+  pub done : IsJobDone store contents database left job before later status
+  pub book : IsOfBook job → OfHeld store image left (λ W L. IsBookOf store (done.opened) W L)
+
+-- The job was stopped over the database in the files, or there was no book in it: that isn't said
+-- to be another's (43) if the files held a book.
+pub record IsStoppedFrom
+    {S W : Type 0} (store : Ghosts S) (contents : W → Option (List ℕ)) (image : Image)
+    (left : Held S) (job : Job) (before later : W) (stop : CommandError) : Type 0 where
+  pub database : Held S
+  pub stopped : IsJobStopped store contents database left job before later stop
+  pub this : (no : IsNoBook store database left job before later stop) → IsOfBook job
+      → OfHeld store image left (λ W L. no.fault ≢ NotThisBook)
+
+-- The files couldn't be opened as a database, and nothing was printed. That is said to be another's
+-- (43) of files that held a book only where the disk itself told of a fault.
+pub record IsUnopened
+    {D W : Type 0} {disk : Disks D} (image : Image) (error : Error)
+    (leftover : Option (Leftover D disk)) (before later : W) : Type 0 where
+  pub printed : later ≡ before
+  pub none : leftover ≡ None → fault_of error ≢ NotThisBook
+  pub this : IfSome leftover (λ left. IsCleanLeft left
+      → (q : Rules) (W : Who) (L : List Entry) → HoldsBook image q W L
+      → fault_of error ≡ NotThisBook → 0 < faults_left left)
