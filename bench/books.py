@@ -283,7 +283,7 @@ def measure(program, statements, depositors, entries, folder):
     os.remove(book)
     print(f"{entries:8,d} {depositors:4d} {size / 1e6:7.1f} | {opening:8.3f} {COMMANDS / taken:8.0f} {COMMANDS / known:8.0f} {peak:7.1f} "
           f"| {c_opening:8.4f} {COMMANDS / c_taken:8.0f} {COMMANDS / c_known:8.0f} {check:8.3f}", flush=True)
-    for what, value, unit in (("file", size / 1e6, "MB"), ("opening", opening, "s"), ("peak memory", peak, "MiB"),
+    for what, value, unit in (("opening", opening, "s"), ("peak memory", peak, "MiB"),
                               ("new interchange over HTTP", COMMANDS / taken, "requests/s"),
                               ("known interchange over HTTP", COMMANDS / known, "requests/s"),
                               ("C SQLite, transactions", COMMANDS / c_taken, "1/s"),

@@ -564,6 +564,7 @@ def watched(program, folder):
 
 
 def measure(program, folder, largest):
+    lib.figure("load", os.getloadavg()[0], "running")
     for depositors in (1, 100):
         entries = 1000
         while entries <= largest:

@@ -9,7 +9,8 @@ Usage: bench/documents.py [--words]     (with --words the words of each page are
   - no page has more words than its limit, and all together no more than theirs;
   - terms that have another word here aren't used;
   - parts that scripts make (`<!-- made: NAME -->`) are what the scripts make;
-  - the number of crates that examples/day/run.sh tells is that of the program.
+  - the number of crates that examples/day/run.sh tells is that of the program;
+  - README and CHANGELOG name the version that the program prints.
 
 What departs is told, and the status is 1.
 """
@@ -21,7 +22,7 @@ import re
 import subprocess
 import sys
 
-from lib import HERE, TOP, below
+from lib import HERE, TOP, below, files
 
 RUN = {
     "tier": "quick",
@@ -53,9 +54,7 @@ def read(path):
 
 def pages():
     """The Markdown pages of the repository."""
-    said = subprocess.run(["git", "ls-files", "--cached", "--others", "--exclude-standard", "*.md"], cwd=TOP,
-                          capture_output=True, text=True, check=True).stdout
-    return [path for path in sorted(set(said.split())) if os.path.exists(f"{TOP}/{path}")]
+    return files("*.md")
 
 
 def words_of(text):
@@ -93,11 +92,10 @@ def wrong_terms(page, text):
 def lost_records():
     """Records of docs/DECISIONS.md that are named and aren't there."""
     there = set(re.findall(r"^### (\d+)\. ", read("docs/DECISIONS.md"), re.M))
-    said = subprocess.run(["git", "grep", "-noE", r"DECISIONS(\.md)?,? [0-9]+"], cwd=TOP, capture_output=True, text=True, check=False)
-    for line in said.stdout.splitlines():
-        number = RECORD.search(line)[1]
-        if number not in there:
-            yield f"{line}: no such record"
+    for path in files("*.md", "*.rt", "*.antt", "*.py", "*.sh", "examples/service/*", "crates.txt"):
+        for number in RECORD.findall(read(path)):
+            if number not in there:
+                yield f"{path}: no record {number} of docs/DECISIONS.md"
 
 
 def too_many_words(counts):
@@ -129,12 +127,22 @@ def wrong_count():
         yield f"examples/day/run.sh --crates: {said.strip()}, and not {wanted}"
 
 
+def other_versions():
+    """Pages that name another version than the program's own constant (crates/running/src/run.rt)."""
+    version = re.search(r'VERSION: &str = "whx12 (\S+)\\n"', read("crates/running/src/run.rt"))[1]
+    told = {"README.md": r"^Version ([\d.]+),", "CHANGELOG.md": r"^## (\d\S*)$"}
+    for page, pattern in told.items():
+        found = re.search(pattern, read(page), re.M)
+        if not found or found[1] != version:
+            yield f"{page}: the version isn't {version}"
+
+
 def main():
     texts = {page: read(page) for page in pages()}
     counts = {page: words_of(text) for page, text in texts.items() if page not in MADE}
     if "--words" in sys.argv:
         print("\n".join(f"{count:6} {page}" for page, count in counts.items()))
-    wrong = [*too_many_words(counts), *lost_records(), *old_parts(), *wrong_count()]
+    wrong = [*too_many_words(counts), *lost_records(), *old_parts(), *wrong_count(), *other_versions()]
     for page, text in texts.items():
         wrong += [*lost_paths(page, text), *wrong_terms(page, text)]
         if page not in MADE:

@@ -6,8 +6,9 @@ Usage: bench/figures.py [--check]
 bench/results.jsonl has what each script reported in its last run (lib.figure, bench/run). From it come
 the table between `<!-- made: figures -->` and `<!-- end -->` of the page, with the runs that it was made
 of below it, and the plots in docs/figures. Runs that failed don't count; where several have a figure, the
-newest counts. A figure that no run has is `-` in the table, and no point of a plot. With --check nothing
-is written, and the status is 1 where the page or a plot is another one than would be made.
+newest counts. A figure that no run has is `-` in the table, and no point of a plot; so is one that isn't
+above 0, which is the noise of a difference. With --check nothing is written, and the status is 1 where
+the page or a plot is another one than would be made.
 """
 import json
 import math
@@ -27,12 +28,14 @@ RUN = {
 PAGE = "docs/PERFORMANCE.md"
 TENS = ["1,000 entries", "10,000 entries", "100,000 entries"]
 ALONE, MANY = "{}, 1 depositor", "{}, 100 depositors"
-YEAR = ["1 day", "21 days", "63 days", "250 days"]
+YEAR, LONGER = ["1 day", "21 days"], ["63 days", "250 days"]
+ORDERS, LARGER = ["99 lines of 99 lots", "999 lines of 9 lots"], ["999 lines of 99 lots", "999 lines of 999 lots"]
 C, PARSER = "C SQLite", "X12::Parser"
 
 # A row of the table: the script that measures it, what it is, at which sizes, the name of the figure at a
-# size, whose figure stands beside it under which name, and how many digits are told.
-Row = namedtuple("Row", "script what sizes name whose other digits", defaults=["", "", 2])
+# size, whose figure stands beside it under which name, how many digits are told, and sizes that are told
+# only where they were measured.
+Row = namedtuple("Row", "script what sizes name whose other digits more", defaults=["", "", 2, ()])
 TABLE = {
     "A command over an open book, processor time": [
         Row("costs", "new command", TENS, f"new command, {ALONE}", C, f"C SQLite, new command, {ALONE}"),
@@ -42,11 +45,8 @@ TABLE = {
             "C SQLite, mebibyte of advices"),
         Row("lines", "a line of an advice", ["99 lines", "999 lines"], "line of an advice of {}, file"),
         Row("lines", "a line of a count", ["99 lines", "999 lines"], "line of a count of {}, file"),
-        Row("lines", "an order, by its lines and the lots of each",
-            ["99 lines of 99 lots", "999 lines of 9 lots", "999 lines of 99 lots"], "order of {}"),
-        Row("lines", "peak memory of such a command",
-            ["99 lines of 99 lots", "999 lines of 9 lots", "999 lines of 99 lots"],
-            "peak memory, order of {}"),
+        Row("lines", "an order", ORDERS, "order of {}", more=LARGER),
+        Row("lines", "peak memory of such a command", ORDERS, "peak memory, order of {}", more=LARGER),
         Row("pages", "a set of one line, a new item before all others",
             ["100 rows", "1,000 rows", "10,000 rows", "100,000 rows"], "step, {}, a new row in front"),
     ],
@@ -74,12 +74,12 @@ TABLE = {
         Row("carried", "carrying a book of version 1 over", TENS, f"carrying over, {ALONE}"),
     ],
     "A house of 40,000 entries a day": [
-        Row("year", "entries", YEAR, "year: entries after {}"),
-        Row("year", "file", YEAR, "year: file after {}"),
-        Row("year", "opening", YEAR, "year: opening after {}"),
-        Row("year", "peak memory", YEAR, "year: peak memory after {}"),
-        Row("year", "new command over HTTP, processor time", YEAR, "year: new command after {}"),
-        Row("year", "known command over HTTP, processor time", YEAR, "year: known command after {}"),
+        Row("year", "entries", YEAR, "year: entries after {}", more=LONGER),
+        Row("year", "file", YEAR, "year: file after {}", more=LONGER),
+        Row("year", "opening", YEAR, "year: opening after {}", more=LONGER),
+        Row("year", "peak memory", YEAR, "year: peak memory after {}", more=LONGER),
+        Row("year", "new command over HTTP, processor time", YEAR, "year: new command after {}", more=LONGER),
+        Row("year", "known command over HTTP, processor time", YEAR, "year: known command after {}", more=LONGER),
     ],
     "Texts in memory (`script`), wall time": [
         Row("measure", "acknowledgments, 0.8 MB", [], "acknowledgments, bytes a second", PARSER,
@@ -116,7 +116,8 @@ class Results:
             for run in sorted(runs, key=lambda it: it["date"]):
                 if run["status"] == 0:
                     for name, (value, unit) in run.get("figures", {}).items():
-                        self.found[run["script"], name] = value, unit, run
+                        if 0 < value < math.inf:
+                            self.found[run["script"], name] = value, unit, run
 
     def ask(self, script, name):
         """A figure's value and unit, or None."""
@@ -159,22 +160,23 @@ def shared(sizes):
 
 
 def row_of(results, row):
-    names = [row.name.format(size) for size in row.sizes or [""]]
-    cells = [row.what, shared(row.sizes), told(results, row.script, names, row.digits), "", row.script]
+    sizes = [*row.sizes, *(it for it in row.more if results.ask(row.script, row.name.format(it)))]
+    names = [row.name.format(size) for size in sizes or [""]]
+    cells = [row.what, shared(sizes), told(results, row.script, names, row.digits), "", row.script]
     if row.other:
-        others = [row.other.format(size) for size in row.sizes or [""]]
+        others = [row.other.format(size) for size in sizes or [""]]
         cells[3] = f"{row.whose}: {told(results, row.script, others, row.digits)}"
     return f"| {' | '.join(cells)} |"
 
 
 def runs_of(results):
-    """The runs that were used: those of one commit, date and machine in one sentence."""
+    """The runs that were used: those of one commit, date and machine in one item of a list."""
     kinds = {}
     for (script, words), run in sorted(results.used.items()):
         load = run["figures"].get("load")
         said = " ".join([f"`{' '.join([script, *words.split()])}`", *([f"({load[0]:.1f})"] if load else [])])
         kinds.setdefault((run["commit"], run["date"], run["machine"]), []).append(said)
-    return [f"Commit {commit}, {date}, {machine}; scripts, and the machine's load before each: {', '.join(said)}."
+    return [f"- Commit {commit}, {date}, {machine}; scripts, with the load before each: {', '.join(said)}."
             for (commit, date, machine), said in sorted(kinds.items())]
 
 
@@ -193,7 +195,7 @@ BLUE, SKY, RED, SAND, GREEN = "#0072b2", "#3fa0da", "#c2500a", "#d99a2b", "#0080
 MARKS = {"circle": "m-4.5 0a4.5 4.5 0 1 0 9 0a4.5 4.5 0 1 0 -9 0z", "square": "m-4.2 -4.2h8.4v8.4h-8.4z",
          "diamond": "m0 -5.6l5.6 5.6l-5.6 5.6l-5.6 -5.6z", "triangle": "m0 -5.6l5.4 9.6h-10.8z"}
 STYLE = (f"text{{font:13px sans-serif;fill:{INK}}}.title{{font-weight:bold;font-size:15px}}"
-         f".axis{{fill:{PALE}}}.value{{paint-order:stroke;stroke:#ffffff;stroke-width:4px}}"
+         f".axis{{fill:{PALE}}}.value{{paint-order:stroke;stroke:#ffffff;stroke-width:6px}}"
          f".mid{{text-anchor:middle}}.end{{text-anchor:end}}")
 # A line: what it is, its points, its colour, the shape of its marks, and whether it is broken.
 Line = namedtuple("Line", "what points colour mark broken", defaults=[False])
@@ -319,7 +321,7 @@ def bars(title, along, kinds, found):
         drawn += [text(left - 10, y + 20, bar.what, "end"),
                   f'<rect x="{left}" y="{y + 2}" width="{place(bar.value) - left:.1f}" height="28" '
                   f'fill="{kinds[bar.kind][1]}"/>',
-                  text(place(bar.value) + 8, y + 20.5, rounded(bar.value))]
+                  text(place(bar.value) + 8, y + 20.5, rounded(bar.value), "value")]
     drawn.append(text((left + right) / 2, foot + 42, along, "axis mid"))
     return sheet(title, height, drawn)
 
@@ -339,7 +341,7 @@ def commands_of(results):
 def openings_of(results):
     """What an opening costs, by the entries of its book."""
     sizes = [(size, int(size.split()[0].replace(",", ""))) for size in TENS]
-    days = [(size, results.ask("year", f"year: entries after {size}")) for size in YEAR]
+    days = [(size, results.ask("year", f"year: entries after {size}")) for size in YEAR + LONGER]
     days = [(size, got[0]) for size, got in days if got]
     lines = [Line("1 depositor", results.points("books", f"opening, {ALONE}", sizes), BLUE, "circle"),
              Line("100 depositors", results.points("books", f"opening, {MANY}", sizes), SKY, "square"),

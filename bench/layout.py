@@ -15,7 +15,7 @@ import re
 import subprocess
 import sys
 
-from lib import TOP
+from lib import TOP, files
 
 RUN = {
     "tier": "quick",
@@ -25,13 +25,6 @@ RUN = {
 RATTLE = "/opt/rattle/bin/rattle"
 MOST_CODE, MOST_SCRIPT = 100, 180
 FREE = re.compile(r'^\s*(pub )?(ghost )?use |^\s*#!?\[|"')
-
-
-def tracked(*patterns):
-    """The files of the repository that fit, as paths from its top."""
-    words = ["git", "ls-files", "--cached", "--others", "--exclude-standard", *patterns]
-    said = subprocess.run(words, cwd=TOP, capture_output=True, text=True, check=True).stdout
-    return [path for path in sorted(set(said.splitlines())) if os.path.isfile(f"{TOP}/{path}")]
 
 
 def long_lines(paths, most):
@@ -45,13 +38,13 @@ def long_lines(paths, most):
 
 def unread_scripts():
     """Scripts that can't be parsed."""
-    for path in [*tracked("bench/*.py"), "bench/run"]:
+    for path in [*files("bench/*.py"), "bench/run"]:
         try:
             with open(f"{TOP}/{path}", encoding="utf-8") as file:
                 ast.parse(file.read())
         except SyntaxError as error:
             yield f"{path}: {error}"
-    for path in [*tracked("*.sh"), ".ci/run"]:
+    for path in [*files("*.sh"), ".ci/run"]:
         ran = subprocess.run(["bash", "-n", path], cwd=TOP, capture_output=True, text=True, check=False)
         if ran.returncode:
             yield f"{path}: {ran.stderr.strip()}"
@@ -60,17 +53,17 @@ def unread_scripts():
 def unformatted():
     """Sources that the formatter would lay out otherwise."""
     if os.path.exists(RATTLE):
-        paths = tracked("crates/*.rt", "crates/*.antt")
+        paths = files("crates/*.rt", "crates/*.antt")
         ran = subprocess.run([RATTLE, "fmt", "--check", *paths], cwd=TOP, capture_output=True, text=True, check=False)
         if ran.returncode:
             yield from (ran.stdout + ran.stderr).splitlines()[:20]
 
 
 def main():
-    code = [path for path in tracked("crates/*.rt") if not path.startswith("crates/cases/")]
-    wrong = [*long_lines(code, MOST_CODE), *long_lines(tracked("bench/*.py", "*.sh"), MOST_SCRIPT),
+    code = [path for path in files("crates/*.rt") if not path.startswith("crates/cases/")]
+    wrong = [*long_lines(code, MOST_CODE), *long_lines(files("bench/*.py", "*.sh"), MOST_SCRIPT),
              *unread_scripts(), *unformatted()]
-    print("\n".join(wrong) or f"{len(tracked('crates/*.rt', 'crates/*.antt'))} sources are in their layout")
+    print("\n".join(wrong) or f"{len(files('crates/*.rt', 'crates/*.antt'))} sources are in their layout")
     return 1 if wrong else 0
 
 

@@ -1,11 +1,13 @@
 """What the scripts of this folder share: the program, its arguments, a server to talk to, texts to send and
 figures to report."""
 import contextlib
+import fnmatch
 import os
 import pty
 import socket
 import sqlite3
 import subprocess
+import tempfile
 import time
 
 HERE = os.path.dirname(os.path.abspath(__file__))
@@ -151,6 +153,16 @@ def advice(shipment, lines, order="PO77", number=1):
 # --- the repository ----------------------------------------------------------------------------
 
 
+def files(*patterns):
+    """The files of the repository that fit one of the patterns, as paths from its top, without what is built."""
+    found = []
+    for at, folders, names in os.walk(TOP):
+        folders[:] = sorted(it for it in folders if it not in (".git", "out", "__pycache__"))
+        paths = (os.path.relpath(os.path.join(at, name), TOP) for name in names)
+        found += [path for path in paths if any(fnmatch.fnmatch(path, it) for it in patterns)]
+    return sorted(found)
+
+
 def crates_of():
     """What each crate of crates.txt uses, the repository's own and the kit's."""
     found = {}
@@ -200,7 +212,8 @@ def on_terminal(words):
 
 def preloaded(folder, source, *flags):
     """A library of C, compiled so that it can stand before the C library (LD_PRELOAD)."""
-    path, library = os.path.join(folder, "before.c"), os.path.join(folder, "before.so")
+    own = tempfile.mkdtemp(dir=folder)
+    path, library = os.path.join(own, "before.c"), os.path.join(own, "before.so")
     with open(path, "w", encoding="utf-8") as file:
         file.write(source)
     subprocess.run(["gcc", "-shared", "-fPIC", "-O1", *flags, "-o", library, path, "-ldl"], check=True)

@@ -19,7 +19,7 @@ import time
 
 import books
 import register
-from lib import HERE, figure
+from lib import figure, option, program_in
 
 RUN = {
     "tier": "figures",
@@ -69,12 +69,8 @@ def measure(program, folder, depositors, entries):
 
 
 def main(words):
-    largest = 100_000
-    if "--largest" in words:
-        at = words.index("--largest")
-        largest = int(words[at + 1])
-        del words[at:at + 2]
-    program = os.path.abspath(words[0]) if words else os.path.join(HERE, "..", "crates", "whx12", "out", "whx12")
+    largest = option(words, "--largest", 100_000)
+    program = program_in(words)
     figure("load", os.getloadavg()[0], "running")
     with tempfile.TemporaryDirectory(prefix="whx12-lists-") as folder:
         for depositors in (1, 100):

@@ -3,9 +3,10 @@
 
 Usage: bench/refused.py LOG     (what `rt ci` printed)
 
-Each edit of crates/CRATE/must-fail has to have its line `must-fail CRATE/NAME: refused, as it must be`, with the place
-of a clause: `rt ci` also passes an edit that only a proof file refuses since a name is gone, which shows nothing of a
-contract. Its last line must say that nothing failed. What departs is told, and the status is 1.
+Each edit of crates/CRATE/must-fail has to have its line `must-fail CRATE/NAME: refused, as it must be`,
+with the place of a clause: `rt ci` also passes an edit that only a proof file refuses since a name is
+gone, which shows nothing of a contract. Its last line must say that nothing failed. What departs is
+told, and the status is 1.
 """
 import glob
 import os
@@ -19,7 +20,7 @@ RUN = {
     "shows": "CI refused each of its wrong bodies for a clause (CI runs this itself, over its own log)",
     "minutes": 0.01,
 }
-LINE = re.compile(r"^must-fail (\S+)\.edit: (.*)$", re.M)
+LINE = re.compile(r"^(?:rt: )?must-fail (\S+)\.edit: (.*)$", re.M)
 
 
 def wrong_lines(log):
@@ -30,8 +31,8 @@ def wrong_lines(log):
         verdict = said.get(name, "CI didn't try it")
         if not verdict.startswith("refused, as it must be") or "(only because" in verdict:
             yield f"{name}: {verdict}"
-    if not re.search(r"^\d+ passed, 0 failed$", log.strip().splitlines()[-1] if log.strip() else ""):
-        yield "the last line isn't that of a good run"
+    if re.findall(r"^\d+ passed, (\d+) failed$", log, re.M)[-1:] != ["0"]:
+        yield "the run didn't end with `N passed, 0 failed`"
 
 
 def main():

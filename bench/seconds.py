@@ -2,16 +2,17 @@
 """What each function of a crate costs the prover.
 
 Usage: bench/seconds.py CRATE [--cpus 3] [--most 40] [--keep FOLDER] [FLAG ..]
-              (default: processor 3, the forty dearest; further flags go to `rattle check`, as `--only
-           CRATE::module` or `--allow-holes`)
+       (default: processor 3, the forty dearest; further flags go to `rattle check`, as `--only
+        MODULE::FUNCTION` or `--allow-holes`)
 
 The crate is checked over the libraries that earlier runs of `rt ci` on this machine kept (the newest of
-each), or that bench/libraries.py made, by one job, as CI does it. Printed are rattle's last lines, the
-seconds of each part of all proofs, and those of each function: those between what was checked before it
-and itself, with the lemmas that it is the first to need; after them, where it takes a second or more,
-those of its search alone (its module `Proof`), which an answer would save. With `--keep` what is proved
-stays in FOLDER and the next run there does only what changed. A first function pays some 15 seconds for
-the front end. Other work on the machine makes all of it dearer.
+each), or that bench/libraries.py made, by one job, as CI does it. It asks `rattle` alone: `rt check` of
+a crate high up first reads all sources once for each way down crates.txt, for minutes. Printed is what
+rattle says, but for what is proved, the seconds of each part of all proofs, and those of each function:
+those between what was checked before it and itself, with the lemmas that it is the first to need; after
+them, where it takes a second or more, those of its search alone (its module `Proof`), which an answer
+would save. With `--keep` what is proved stays in FOLDER and the next run there does only what changed. A
+first function pays some 15 seconds for the front end. Other work on the machine makes all of it dearer.
 """
 import collections
 import glob
@@ -105,8 +106,8 @@ def main():
         run = subprocess.run(["taskset", "-c", cpus, *words_of(crate, crates_of(), f"{room}/rlib"), "--incremental", kept, *words],
                              stdout=subprocess.PIPE, stderr=subprocess.STDOUT, text=True, errors="replace", check=False)
         sums, kinds, searches = spent(kept, os.stat(begun).st_mtime)
-    lines = [it for it in run.stdout.splitlines() if not it.startswith("statements ")]
-    print("\n".join(lines[-12:]))
+    lines = [it for it in run.stdout.splitlines() if not it.startswith(("statements ", "library ")) and not it.endswith(": proved")]
+    print("\n".join(lines))
     print(f"{len(sums)} items, {sum(sums.values()):.0f} seconds: {', '.join(f'{it} {seconds:.0f}' for it, seconds in kinds.most_common(6))}")
     for name, seconds in sums.most_common(most):
         print(f"{seconds:7.1f}  {name}{f'  search {searches[name]:.1f}' if searches[name] >= 1 else ''}")

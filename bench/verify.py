@@ -119,6 +119,7 @@ def watched(house, entries):
 
 def measure(program, folder, largest):
     """The time and the memory of `verify` over long registers."""
+    figure("load", os.getloadavg()[0], "running")
     for depositors in (1, 100):
         entries = 1000
         while entries <= largest:
