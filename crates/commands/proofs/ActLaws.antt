@@ -1,15 +1,16 @@
 -- What a stop leaves after a command, and the status of several.
-use Rattle.std.proofs.Common.{◌≡◌, ◌∙◌, sym, refl, ap, Bool, true, false, List, ◌∷◌, ◌++◌, [], inr, Result, Ok, Err, IfErr}
+use Rattle.std.proofs.Common.{◌≡◌, ◌∙◌, sym, refl, ap, subst, ℕ, Bool, true, false, List, ◌∷◌, ◌++◌, [], Option, inr, Result, Ok, Err, IfErr, OnErr}
 use Rattle.std.specs.Prelude.{if◌then◌else◌, ◌||◌}
 use Rattle.std.specs.List.{list_any}
 use Rattle.std.proofs.lemmas.List.Folds.{list_any-append}
 use Rattle.profile.specs.declared.rules.Rules.TheVariants.{Two}
-use Rattle.profile.specs.Accepted.{after}
+use Rattle.profile.specs.Accepted.{after, reply_to}
 use Rattle.profile.specs.Moments.{Moment}
 use Rattle.profile.specs.Register.{Entry, Command}
 use Rattle.profile.specs.Reply as replies
-use Rattle.store.specs.Standing.{Standing, IsUsable, LeavesEither, OfUsable}
+use Rattle.store.specs.Standing.{Standing, IsUsable, LeavesEither, OfKept, OfUsable}
 use Rattle.commands.specs.Enrolling as listed
+use Rattle.commands.specs.Printing.{AppendsFront}
 use Rattle.commands.specs.Statuses.{and_then}
 use Rattle.commands.specs.Stops.{IsDeviceStop, IsStopped}
 use Rattle.commands.specs.Telling as told
@@ -21,11 +22,17 @@ use Rattle.commands.specs.declared.told.ExitStatus.TheVariants.{Done, Refused}
 pub leaves_second : (s : Standing) (L next : List Entry) → IsUsable s next → LeavesEither s L next
 leaves_second s L next u = record { stand = u.stand; each = λ M h. inr (u.only M h) }
 
--- of a command that was answered: what couldn't be told
-pub untold : {T : Type 0} (old new : Standing) (c : Command) (t : Moment) (r : Result T CommandError) → new.shut ≡ false
-    → OfUsable old new (λ L. IsUsable new (after Two old.warehouse L (c, t))) → IfErr r IsDeviceStop → IfErr r (IsStopped old new c t)
-untold old new c t (Ok x) opened done why = tt
-untold old new c t (Err e) opened done why = inr (record { opened = opened; done = done; why = why })
+-- of a command that was answered so: what couldn't be told
+pub untold : {T : Type 0} (old new : Standing) (c : Command) (t : Moment) (shown : replies.Reply → List ℕ) (before later : Option (List ℕ)) (reply : replies.Reply) (r : Result T CommandError) → new.shut ≡ false
+    → OfUsable old new (λ L. IsUsable new (after Two old.warehouse L (c, t))) → OfKept old new (λ L. reply ≡ reply_to Two old.warehouse L c t) → OnErr r (AppendsFront before later (shown reply))
+    → IfErr r IsDeviceStop → IfErr r (IsStopped old new c t shown before later)
+untold old new c t shown before later reply (Ok x) opened done is front why = tt
+untold old new c t shown before later reply (Err e) opened done is front why = inr (record {
+  opened = opened;
+  done = done;
+  printed = λ clean L kept legal. subst (λ (k : replies.Reply). AppendsFront before later (shown k)) (is clean L kept legal) front;
+  why = why;
+})
 
 -- One more, which is refused or not.
 

@@ -1,17 +1,17 @@
 -- The minute that a calendar and a clock show.
-use Rattle.std.proofs.Common.{◌≡◌, ◌∙◌, ap, sym, refl, subst, arith, ℕ, ◌<◌, ◌≤◌, Bool, true, false, ℤ, pos, negsuc, ◌<ℤ◌, Option, Some, None, MatchOption, FitsSigned, w8, to_z, of_z, unsigned_abs}
+use Rattle.std.proofs.Common.{◌≡◌, ◌∙◌, ap, sym, refl, subst, arith, ℕ, ◌<◌, ◌≤◌, Bool, true, false, ℤ, pos, negsuc, ◌<ℤ◌, Option, Some, None, IfSome, MatchOption, FitsSigned, w8, to_z, of_z, unsigned_abs}
 use Rattle.std.specs.Prelude.{◌&&◌, ◌||◌, ◌==◌, ◌%◌, not, nat_lt, int_lt, if◌then◌else◌}
 use Rattle.std.specs.Int.{w16}
 use Rattle.std.proofs.lemmas.Int.{to_z-of_z}
 use Rattle.std.specs.Cmp.Derive.{both_true}
 use Rattle.std.proofs.lemmas.Bool.Decides.{nat_tests}
 use Rattle.jiff.proofs.SpanFacts.{signed_arith}
-use Rattle.jiff.specs.Types.{DateTime}
+use Rattle.jiff.specs.Types.{DateTime, Timestamp}
 use Rattle.jiff.specs.Words.{is_leap_year, days_in_month}
 use Rattle.profile.proofs.TextLaws.{between, both_parts, within}
 use Rattle.profile.specs.Bytes.{is_between}
 use Rattle.profile.specs.Moments.{Moment, is_leap, days_in, is_day, is_moment}
-use Rattle.commands.specs.Clock.{minute_in, minute_of}
+use Rattle.commands.specs.Clock.{IsCivil, IsMinuteOf, minute_in, minute_of}
 
 -- a year below 0 is none of 2000 to 2099
 pub none_before : (year : ℤ) (month day hour minute : ℕ) → year <ℤ pos 0 → None ≡ minute_in year month day hour minute
@@ -102,3 +102,8 @@ year_is y a b k p q first second h e =
     let from = subst (λ z. int_lt z (pos 0) ≡ false) p (simp to_z-of_z at h) in
     let is = (simp to_z-of_z at e) ∙ ap unsigned_abs q in
     from_zero y from ∙ ap pos (sym is)
+
+-- the minute of a time that was shown, where it has one
+pub minute_shown : (shows : Timestamp → Type 0) (t : Timestamp) (found : Option Moment) → shows t → IsCivil t found → IfSome found (IsMinuteOf shows)
+minute_shown shows t None s h = tt
+minute_shown shows t (Some m) s h = record { time = t; shown = s; is = h }

@@ -14,9 +14,11 @@ use Rattle.store.specs.Standing.{Standing, IsUsable, KeepsLegal, GoesOn, LeavesE
 use Rattle.store.specs.Fault.{Fault}
 use Rattle.commands.proofs.ActLaws.{reply_more}
 use Rattle.commands.proofs.TellingLaws.{appends_nothing}
-use Rattle.commands.specs.Enrolling.{enrolments, status_of_replies, line_of, lines_of, AreEnrolled, AreEnrolledUntil, IsListStopped}
+use Rattle.commands.proofs.PrintingLaws.{front_second}
+use Rattle.commands.specs.Enrolling.{enrolments, status_of_replies, line_of, lines_of, AreEnrolled, AreEnrolledUntil, IsListStopped, IsUnenrolled, IsUnlisted}
+use Rattle.commands.specs.Printing.{AppendsFront}
 use Rattle.commands.specs.Statuses.{and_then}
-use Rattle.commands.specs.Stops.{IsFaultThat, IsStopped}
+use Rattle.commands.specs.Stops.{IsFaultThat, IsSilent, IsStopped, IsUntold}
 use Rattle.commands.specs.Telling as told
 use Rattle.commands.specs.declared.told.CommandError.{CommandError}
 use Rattle.commands.specs.declared.told.CommandError.TheVariants as stops
@@ -116,23 +118,46 @@ fault_in_run (stops.Usage text) P Q then' h = absurd h
 fault_in_run (stops.Fault fault) P Q then' h = then' fault h
 fault_in_run (stops.Caused fault cause) P Q then' h = then' fault h
 
--- what stopped one stopped the list
-list_stopped : (a b c : Standing) (xs : List Who) (who : Who) (t : Moment) (out mid : Option (List ℕ)) (status : ExitStatus) (stop : CommandError) → GoesOn a b → GoesOn b c
-    → a.shut ≡ b.shut → AreEnrolled a b xs t out mid status → IsStopped b c (Enrol who) t stop → IsListStopped a c (xs ++ who ∷ []) t stop
-list_stopped a b c xs who t out mid status stop p q same before (inl f) =
-    inl (fault_in_run stop (λ fault. IsFault fault b c) (λ fault. IsRunFault fault true a c) (fault_of_run a b c xs t out mid status p q same before) f)
-list_stopped a b c xs who t out mid status stop p q same before (inr h) = inr (record {
+-- the next wasn't answered
+unenrolled : (a b c : Standing) (xs : List Who) (t : Moment) (out mid later : Option (List ℕ)) (status : ExitStatus) (stop : CommandError) → GoesOn a b → GoesOn b c → a.shut ≡ b.shut
+    → AreEnrolled a b xs t out mid status → IsSilent (λ fault. IsFault fault b c) mid later stop → IsUnenrolled a c xs t out later stop
+unenrolled a b c xs t out mid later status stop p q same before h = record {
+  why = fault_in_run stop (λ fault. IsFault fault b c) (λ fault. IsRunFault fault true a c) (fault_of_run a b c xs t out mid status p q same before) h.0;
+  printed = λ clean L u.
+      let lines = lines_of a.warehouse L t xs in
+      subst (Appends out later) (append-nil lines) (Appends-trans out mid later lines [] (before.printed (clean_before b c q clean) L u) h.1);
+}
+
+-- the next was answered, and its line couldn't be printed
+unlisted : (a b c : Standing) (xs : List Who) (who : Who) (t : Moment) (out mid later : Option (List ℕ)) (status : ExitStatus) (stop : CommandError) → GoesOn a b → GoesOn b c
+    → AreEnrolled a b xs t out mid status → IsUntold b c (Enrol who) t (line_of who) mid later stop → IsUnlisted a c (xs ++ who ∷ []) t out later stop
+unlisted a b c xs who t out mid later status stop p q before h = record {
   opened = h.opened;
   done = λ clean L u. subst (IsUsable c) (grown b.warehouse a.warehouse L xs who t p.warehouse) (h.done clean _ (before.usable (clean_before b c q clean) L u));
+  printed = λ clean L u.
+      let early = clean_before b c q clean in
+      let now = before.usable early L u in
+      let W = a.warehouse in
+      let line = subst (λ (U : Who). AppendsFront mid later (line_of who (reply_to Two U (accepted_on Two W L (enrolments t xs)) (Enrol who) t))) p.warehouse
+      (h.printed clean _ now.keeps now.legal) in
+      subst (AppendsFront out later) (sym (lines_more W L t xs who)) (front_second out mid later _ _ (before.printed early L u) line);
   why = h.why;
-})
+}
+
+-- what stopped one stopped the list
+list_stopped : (a b c : Standing) (whos : List Who) (i : ℕ) (who : Who) (t : Moment) (out mid later : Option (List ℕ)) (status : ExitStatus) (stop : CommandError) → GoesOn a b → GoesOn b c
+    → a.shut ≡ b.shut → take (i + 1) whos ≡ take i whos ++ who ∷ [] → AreEnrolled a b (take i whos) t out mid status → IsStopped b c (Enrol who) t (line_of who) mid later stop
+    → IsListStopped a c whos i t out later stop
+list_stopped a b c whos i who t out mid later status stop p q same next before (inl h) = inl (unenrolled a b c (take i whos) t out mid later status stop p q same before h)
+list_stopped a b c whos i who t out mid later status stop p q same next before (inr h) =
+    inr (subst (λ (ws : List Who). IsUnlisted a c ws t out later stop) (sym next) (unlisted a b c (take i whos) who t out mid later status stop p q before h))
 
 -- the list stops at one, after those that were handed in
-pub stopped_at : (a b c : Standing) (whos : List Who) (i : ℕ) (who : Who) (t : Moment) (out mid : Option (List ℕ)) (status : ExitStatus) (stop : CommandError) → GoesOn a b → GoesOn b c
+pub stopped_at : (a b c : Standing) (whos : List Who) (i : ℕ) (who : Who) (t : Moment) (out mid later : Option (List ℕ)) (status : ExitStatus) (stop : CommandError) → GoesOn a b → GoesOn b c
     → a.shut ≡ b.shut → i < length whos → who ≡ get_or whos i who → AreEnrolled a b (take i whos) t out mid status
     → OfUsable b c (λ L. LeavesEither c L (after Two b.warehouse L (Enrol who, t)))
-    → IsStopped b c (Enrol who) t stop → AreEnrolledUntil a c whos t stop
-stopped_at a b c whos i who t out mid status stop p q same lt is before left why =
+    → IsStopped b c (Enrol who) t (line_of who) mid later stop → AreEnrolledUntil a c whos t out later stop
+stopped_at a b c whos i who t out mid later status stop p q same lt is before left why =
     let next = one_more whos i who lt is in
     record {
       count = i;
@@ -142,5 +167,5 @@ stopped_at a b c whos i who t out mid status stop p q same lt is before left why
           subst (LeavesEither c (accepted_on Two a.warehouse L (enrolments t (take i whos))))
           (grown b.warehouse a.warehouse L (take i whos) who t p.warehouse ∙ sym (ap (λ ws. accepted_on Two a.warehouse L (enrolments t ws)) next))
           (left clean _ mid);
-      stopped = subst (λ (ws : List Who). IsListStopped a c ws t stop) (sym next) (list_stopped a b c (take i whos) who t out mid status stop p q same before why);
+      stopped = list_stopped a b c whos i who t out mid later status stop p q same next before why;
     }

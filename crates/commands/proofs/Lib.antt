@@ -1,10 +1,12 @@
-mod SlipLaws
+pub mod SlipLaws
+pub mod PrintingLaws
 pub mod TellingLaws
 pub mod ShownLaws
 pub mod ActLaws
 pub mod EnrolLaws
 pub mod ClockLaws
 pub mod PlayingLaws
+pub mod TakesLaws
 mod RowsEnrolled
 pub mod ServingLaws
 mod InitRows

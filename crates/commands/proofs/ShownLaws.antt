@@ -1,9 +1,10 @@
 -- What is shown of stock, of what is open, and of an order.
-use Rattle.std.proofs.Common.{◌≡◌, ◌∙◌, ℕ, Bool, List, Option, Some, None, option_map, Ok, Err, IfErr, Result, refl, sym, ap, subst, inr}
+use Rattle.std.proofs.Common.{◌≡◌, ◌∙◌, ℕ, Bool, List, [], Option, Some, None, option_map, Ok, Err, IfErr, OnErr, OnOk, Result, refl, sym, ap, subst, inr}
 use Rattle.std.specs.Io.KnownBytes.{Appends}
 use Rattle.profile.specs.History.{History}
 use Rattle.profile.specs.Need.{Need, need_of_number}
 use Rattle.profile.specs.declared.refusals.Refusal.{Refusal}
+use Rattle.profile.specs.declared.refusals.Refusal.TheVariants.{UnknownDepositor}
 use Rattle.profile.specs.Register.{Entry}
 use Rattle.profile.specs.Reports.{pick_list}
 use Rattle.profile.specs.Rows.{StockRow}
@@ -19,6 +20,10 @@ use Rattle.commands.specs.Shown.{Shown, IsShown, IsShowStopped, shown_stock, sho
 use Rattle.commands.specs.declared.told.CommandError.{CommandError}
 use Rattle.commands.specs.declared.told.ExitStatus.{ExitStatus}
 use Rattle.commands.specs.declared.told.ExitStatus.TheVariants.{Done, Refused}
+use Rattle.commands.specs.Printing.{AppendsFront}
+use Rattle.commands.specs.Refused.{line_if, refused_order, refused_sheet, refused_stranger}
+use Rattle.commands.specs.Telling.{refused_line}
+use Rattle.commands.proofs.PrintingLaws.{front_all, on_err}
 use Rattle.commands.proofs.TellingLaws.{appends_nothing}
 
 -- the report of the rows that were found
@@ -40,10 +45,27 @@ open_shown o p found text written before later is e t w told =
     subst (λ k. IsShown (shown_open k) before later Done) given (record { printed = subst (Appends before later) (w ∙ t) told; says = refl })
 
 -- what was read, and couldn't be told
-pub unshown : {T : Type 0} (old new : Standing) (shown : List Entry → Shown) (what : Shown) (r : Result T CommandError)
-    → OfKept old new (λ L. what ≡ shown L) → IfErr r IsDeviceStop → IfErr r (IsShowStopped old new shown)
-unshown old new shown what (Ok x) read why = tt
-unshown old new shown what (Err e) read why = inr (record { what = what; read = read; why = why })
+pub unshown : {T : Type 0} (old new : Standing) (shown : List Entry → Shown) (what : Shown) (before later : Option (List ℕ)) (r : Result T CommandError)
+    → OfKept old new (λ L. what ≡ shown L) → OnErr r (AppendsFront before later what.0) → IfErr r IsDeviceStop → IfErr r (IsShowStopped old new shown before later)
+unshown old new shown what before later (Ok x) read front why = tt
+unshown old new shown what before later (Err e) read front why = inr (record { what = what; read = read; printed = front; why = why })
+
+-- what was found, where something was, and where nothing was
+pub given_some : {T A : Type 0} (f : T → A) (o : Option T) (v : T) (found : Option A) → o ≡ Some v → option_map f o ≡ found → Some (f v) ≡ found
+given_some f o v found is e = sym (ap (option_map f) is) ∙ e
+
+pub given_none : {T A : Type 0} (f : T → A) (o : Option T) (found : Option A) → o ≡ None → option_map f o ≡ found → None ≡ found
+given_none f o found is e = sym (ap (option_map f) is) ∙ e
+
+-- these bytes were printed of it, or a beginning of them
+pub unshown_text : {T : Type 0} (old new : Standing) (shown : List Entry → Shown) (what : Shown) (written : List ℕ) (before later : Option (List ℕ)) (r : Result T CommandError)
+    → OfKept old new (λ L. what ≡ shown L) → written ≡ what.0 → AppendsFront before later written → IfErr r IsDeviceStop → IfErr r (IsShowStopped old new shown before later)
+unshown_text old new shown what written before later r read is front why = unshown old new shown what before later r read (on_err r (subst (AppendsFront before later) is front)) why
+
+-- nothing is printed of it
+pub unshown_none : {T : Type 0} (old new : Standing) (shown : List Entry → Shown) (what : Shown) (before : Option (List ℕ)) (r : Result T CommandError)
+    → OfKept old new (λ L. what ≡ shown L) → what.0 ≡ [] → IfErr r IsDeviceStop → IfErr r (IsShowStopped old new shown before before)
+unshown_none old new shown what before r read is why = unshown_text old new shown what [] before before r read (sym is) (front_all before before [] (appends_nothing before)) why
 
 -- the sheet of the order that a page holds
 order_of : (number : List ℕ) (o : Option History) (p : _) (text : List ℕ) (before later : Option (List ℕ)) → IsHeld (need_of_number number) (Some p) o
@@ -99,3 +121,43 @@ stranger_read number need o q is held = of_none number need o (subst (λ k. IsHe
     of_none : (number : List ℕ) (need : Need) (o : Option History) → IsHeld need None o → shown_order number None ≡ shown_order number o
     of_none number need None held = refl
     of_none number need (Some h) held = absurd held
+
+-- What is told on standard error of what isn't shown.
+
+pub stranger_said : {T A S : Type 0} (f : T → A) (o : Option T) (found : Option A) (before later : Option (List ℕ)) (r : Result S CommandError) → o ≡ None → option_map f o ≡ found
+    → OnOk r (Appends before later (refused_line UnknownDepositor)) → OnOk r (Appends before later (line_if (refused_stranger found)))
+stranger_said {T} {A} f o found before later r is e told =
+    subst (λ (k : Option A). OnOk r (Appends before later (line_if (refused_stranger k)))) (given_none f o found is e) told
+
+pub nothing_said : {T A : Type 0} (f : T → A) (o : Option T) (v : T) (found : Option A) (before : Option (List ℕ)) → o ≡ Some v → option_map f o ≡ found
+    → Appends before before (line_if (refused_stranger found))
+nothing_said {T} {A} f o v found before is e =
+    subst (λ (k : Option A). Appends before before (line_if (refused_stranger k))) (given_some f o v found is e) (appends_nothing before)
+
+-- of an order that a page holds
+why_of : (number : List ℕ) (o : Option History) (p : _) (made : Result (List ℕ) Refusal) → IsHeld (need_of_number number) (Some p) o
+    → ((h : History) → IsHeldPart (need_of_number number) p h → pick_list h.events number ≡ made) → refused_sheet made ≡ refused_order number o
+why_of number None p made held listed = absurd held
+why_of number (Some h) p made held listed = ap refused_sheet (sym (listed h held))
+
+pub order_why : (number first second : List ℕ) (need : Need) (o : Option History) (q : _) (p : _) (made : Result (List ℕ) Refusal)
+    → first ≡ number → second ≡ number → need ≡ need_of_number first → q ≡ Some p → IsHeld need q o
+    → ((h : History) → IsHeldPart (need_of_number second) p h → pick_list h.events second ≡ made) → refused_sheet made ≡ refused_order number o
+order_why number first second need o q p made f s n is held listed =
+    let known = subst (λ k. IsHeld k (Some p) o) (n ∙ ap need_of_number f) (subst (λ k. IsHeld need k o) is held) in
+    why_of number o p made known (subst (λ k. (h : History) → IsHeldPart (need_of_number k) p h → pick_list h.events k ≡ made) s listed)
+
+pub stranger_why : (number : List ℕ) (need : Need) (o : Option History) (q : _) → q ≡ None → IsHeld need q o → refused_order number None ≡ refused_order number o
+stranger_why number need o q is held = of_none number need o (subst (λ k. IsHeld need k o) is held)
+  where
+    of_none : (number : List ℕ) (need : Need) (o : Option History) → IsHeld need None o → refused_order number None ≡ refused_order number o
+    of_none number need None held = refl
+    of_none number need (Some h) held = absurd held
+
+-- the line of a refusal that is this one
+pub why_said : {S : Type 0} (why found : Option Refusal) (before later : Option (List ℕ)) (r : Result S CommandError) → why ≡ found → OnOk r (Appends before later (line_if why))
+    → OnOk r (Appends before later (line_if found))
+why_said why found before later r is told = subst (λ (k : Option Refusal). OnOk r (Appends before later (line_if k))) is told
+
+pub none_said : (found : Option Refusal) (before : Option (List ℕ)) → None ≡ found → Appends before before (line_if found)
+none_said found before is = subst (λ (k : Option Refusal). Appends before before (line_if k)) is (appends_nothing before)

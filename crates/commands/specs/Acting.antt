@@ -10,7 +10,7 @@ use Rattle.commands.specs.Clerks.{command_of}
 use Rattle.commands.specs.Enrolling.{IsEnrolling}
 use Rattle.commands.specs.Stops.{IsStopped}
 use Rattle.commands.specs.Takes.{IsTaking}
-use Rattle.commands.specs.Telling.{IsPrinted, said_of}
+use Rattle.commands.specs.Telling.{IsPrinted, said_of, printed_of}
 use Rattle.commands.specs.declared.acts.Ready.{Ready}
 use Rattle.commands.specs.declared.acts.Ready.TheVariants as ready
 use Rattle.commands.specs.declared.told.CommandError.{CommandError}
@@ -21,7 +21,7 @@ abbrev pub Ending : Type 0
 Ending = Result ExitStatus CommandError
 
 -- One command was handed in: its reply is printed, the register is the one after it, and a stop, of
--- which it is said what it was, leaves the one before it or that one.
+-- which it is said what it was and what is printed, leaves the one before it or that one.
 pub record IsHandedIn
     (old new : Standing) (c : Command) (t : Moment) (before later : Option (List ℕ))
     (ending : Ending) : Type 0 where
@@ -31,7 +31,7 @@ pub record IsHandedIn
       (λ L. OnOk ending (IsUsable new (after Two old.warehouse L (c, t))))
   pub left : OfUsable old new
       (λ L. OnErr ending (LeavesEither new L (after Two old.warehouse L (c, t))))
-  pub stopped : IfErr ending (IsStopped old new c t)
+  pub stopped : IfErr ending (IsStopped old new c t printed_of before later)
 
 -- what was made ready was done; a list of depositors and a folder are many commands
 abbrev pub IsPerformed : Standing → Standing → Ready → Moment → Option (List ℕ) → Option (List ℕ)

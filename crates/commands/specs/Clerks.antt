@@ -1,5 +1,5 @@
 -- What a clerk did, as the words of a line and a sheet tell it.
-use Rattle.std.specs.Prelude.{◌≡◌, ◌⊎◌, ℕ, nat_lt, if◌then◌else◌, List, length, Option, Some, None, Result, Ok, Err}
+use Rattle.std.specs.Prelude.{◌≡◌, ◌⊎◌, ◌+◌, ℕ, nat_lt, if◌then◌else◌, List, length, Option, Some, None, Result, Ok, Err}
 use Rattle.profile.specs.declared.sheet_kind.SheetKind.{SheetKind}
 use Rattle.profile.specs.declared.rules.Rules.TheVariants.{Two}
 use Rattle.profile.specs.Header.{Who}
@@ -9,6 +9,7 @@ use Rattle.sheet_texts.specs.Texts.{sheet_of_text}
 use Rattle.profile.specs.declared.refusals.Refusal.{Refusal}
 use Rattle.profile.specs.declared.refusals.Refusal.TheVariants.{BadText, TooManyLines}
 use Rattle.intake.specs.Calls as calls
+use Rattle.commands.specs.Files.{Reads}
 use Rattle.commands.specs.declared.files.TheConstants.{MOST_SHEET}
 use Rattle.command_line.specs.declared.words.ClerkWords.{ClerkWords}
 
@@ -32,18 +33,24 @@ sheet_read kind text =
     if nat_lt MOST_SHEET (length text) then Err (long_reason (sheet_of_text Two kind text))
     else sheet_of_text Two kind text
 
--- what a slip of these words has: the words, the depositor that they name, a text, and the sheet of
--- their kind that is read of it
+-- this was read of the file that the words name
+abbrev pub IsSheetRead : Reads → ClerkWords → List ℕ → Type 0
+IsSheetRead reads t text = reads t.sheet.now (MOST_SHEET + 1) text
+
+-- what a slip of these words has: the words, the depositor that they name, the text that was read,
+-- and the sheet of their kind in it
 pub record IsSlipOf
-    (t : ClerkWords) (who : Who) (kept : ClerkWords) (text : List ℕ) (sheet : List Line)
-    : Type 0 where
+    (reads : Reads) (t : ClerkWords) (who : Who) (kept : ClerkWords) (text : List ℕ)
+    (sheet : List Line) : Type 0 where
   pub words : kept ≡ t
   pub named : depositor_of t ≡ Some who
+  pub from : IsSheetRead reads t text
   pub read : sheet_read t.kind text ≡ Ok sheet
 
 -- A clerk's words come to no slip: a word can't be read, or there is no sheet in what was read of
 -- the file.
-abbrev pub IsNoSlip : ClerkWords → Refusal → Type 0
-IsNoSlip words refusal =
+abbrev pub IsNoSlip : Reads → ClerkWords → Refusal → Type 0
+IsNoSlip reads words refusal =
     ((refusal ≡ BadText) × (depositor_of words ≡ None))
-    ⊎ ((text : List ℕ) × (sheet_read words.kind text ≡ Err refusal))
+    ⊎ ((text : List ℕ) × IsSheetRead reads words text
+    × (sheet_read words.kind text ≡ Err refusal))

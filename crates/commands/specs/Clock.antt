@@ -23,3 +23,9 @@ pub record IsCivil (t : Timestamp) (found : Option Moment) : Type 0 where
   pub shown : DateTime
   pub instant : civil_nanos shown ≡ t.nanosecond
   pub is : found ≡ minute_of shown
+
+-- the minute of a time that a clock showed
+pub record IsMinuteOf (shows : Timestamp → Type 0) (m : Moment) : Type 0 where
+  pub time : Timestamp
+  pub shown : shows time
+  pub is : IsCivil time (Some m)

@@ -10,6 +10,7 @@ use Rattle.profile.specs.Refusals.{refusal_number}
 use Rattle.profile.specs.Register.{Entry, Command, Enrol}
 use Rattle.profile.specs.Reply as replies
 use Rattle.store.specs.Standing.{Standing, IsUsable, KeepsLegal, LeavesEither, IsRunFault, OfKept, OfUsable}
+use Rattle.commands.specs.Printing.{AppendsFront}
 use Rattle.commands.specs.Stops.{IsDeviceStop, IsFaultThat}
 use Rattle.commands.specs.declared.told.CommandError.{CommandError}
 use Rattle.commands.specs.declared.told.ExitStatus.{ExitStatus}
@@ -52,33 +53,47 @@ pub record AreEnrolled
       (λ L. status ≡ status_of_replies (replies_on Two old.warehouse L (enrolments t whos)))
   pub printed : OfUsable old new (λ L. Appends before later (lines_of old.warehouse L t whos))
 
--- these were handed in, and the line of the last couldn't be printed
+-- after these the book gave no answer, and the lines of these are printed
+pub record IsUnenrolled
+    (old new : Standing) (whos : List Who) (t : Moment) (before later : Option (List ℕ))
+    (stop : CommandError) : Type 0 where
+  pub why : IsFaultThat stop (λ fault. IsRunFault fault true old new)
+  pub printed : OfUsable old new (λ L. Appends before later (lines_of old.warehouse L t whos))
+
+-- these were handed in, and the line of the last couldn't be printed: of their lines, there is a
+-- beginning
 pub record IsUnlisted
-    (old new : Standing) (whos : List Who) (t : Moment) (stop : CommandError) : Type 0 where
+    (old new : Standing) (whos : List Who) (t : Moment) (before later : Option (List ℕ))
+    (stop : CommandError) : Type 0 where
   pub opened : new.shut ≡ false
   pub done : OfUsable old new
       (λ L. IsUsable new (accepted_on Two old.warehouse L (enrolments t whos)))
+  pub printed : OfUsable old new (λ L. AppendsFront before later (lines_of old.warehouse L t whos))
   pub why : IsDeviceStop stop
 
--- what stopped a list at the last of these: a fault of the book by which it wasn't answered, or one
--- of a device after that
-abbrev pub IsListStopped : Standing → Standing → List Who → Moment → CommandError → Type 0
-IsListStopped old new whos t stop =
-    IsFaultThat stop (λ fault. IsRunFault fault true old new) ⊎ IsUnlisted old new whos t stop
+-- what stopped a list after so many of these: a fault of the book by which the next wasn't
+-- answered, or one of a device after that
+abbrev pub IsListStopped : Standing → Standing → List Who → ℕ → Moment → Option (List ℕ)
+    → Option (List ℕ) → CommandError → Type 0
+IsListStopped old new whos count t before later stop =
+    IsUnenrolled old new (take count whos) t before later stop
+    ⊎ IsUnlisted old new (take (count + 1) whos) t before later stop
 
 -- so many were handed in, and one more perhaps: a crash leaves the register after those, or after
 -- that one too
 pub record AreEnrolledUntil
-    (old new : Standing) (whos : List Who) (t : Moment) (stop : CommandError) : Type 0 where
+    (old new : Standing) (whos : List Who) (t : Moment) (before later : Option (List ℕ))
+    (stop : CommandError) : Type 0 where
   pub count : ℕ
   pub within : count < length whos
   pub left : OfUsable old new
       (λ L. LeavesEither new (accepted_on Two old.warehouse L (enrolments t (take count whos)))
       (accepted_on Two old.warehouse L (enrolments t (take (count + 1) whos))))
-  pub stopped : IsListStopped old new (take (count + 1) whos) t stop
+  pub stopped : IsListStopped old new whos count t before later stop
 
 -- how a list ended
 abbrev pub IsEnrolling : Standing → Standing → List Who → Moment → Option (List ℕ) → Option (List ℕ)
     → Result ExitStatus CommandError → Type 0
 IsEnrolling old new whos t before later (Ok status) = AreEnrolled old new whos t before later status
-IsEnrolling old new whos t before later (Err stop) = AreEnrolledUntil old new whos t stop
+IsEnrolling old new whos t before later (Err stop) =
+    AreEnrolledUntil old new whos t before later stop

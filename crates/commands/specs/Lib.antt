@@ -1,4 +1,6 @@
 pub mod Statuses
+pub mod Files
+pub mod Printing
 pub mod Telling
 pub mod Shown
 pub mod Stops
@@ -6,6 +8,7 @@ pub mod Clerks
 pub mod Acting
 pub mod Readying
 pub mod Looking
+pub mod Refused
 pub mod Takes
 pub mod Enrolling
 pub mod Clock

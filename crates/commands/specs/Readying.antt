@@ -1,13 +1,15 @@
 -- What the words of a line are made ready to, and what comes of it.
-use Rattle.std.specs.Prelude.{◌≡◌, ◌⊎◌, ◌<◌, ℕ, List, [], length, Option, Some, None, IfOk, IfSome, OnOk}
+use Rattle.std.specs.Prelude.{◌≡◌, ◌⊎◌, ◌+◌, ℕ, List, [], Option, Some, None, IfOk, IfSome, OnOk}
 use Rattle.std.specs.Io.KnownBytes.{Appends}
-use Rattle.profile.specs.Header.{who_of}
+use Rattle.profile.specs.declared.limits.TheConstants.{MOST_BYTES}
+use Rattle.profile.specs.Header.{Who, who_of}
 use Rattle.profile.specs.Moments.{Moment}
 use Rattle.store.specs.Refusal.{Refusal}
 use Rattle.store.specs.Refusal.TheVariants.{BadText}
 use Rattle.store.specs.Standing.{Standing, IsUnchanged}
 use Rattle.commands.specs.Acting.{Ending, IsPerformed}
 use Rattle.commands.specs.Clerks.{IsNoSlip, IsSlipOf}
+use Rattle.commands.specs.Files.{Reads, IsLonger, IsWithin, reads_any}
 use Rattle.command_line.specs.Rosters.{IsRosterRead}
 use Rattle.commands.specs.declared.files.TheConstants.{MOST_ROSTER}
 use Rattle.commands.specs.declared.acts.Ready.{Ready}
@@ -16,32 +18,35 @@ use Rattle.commands.specs.declared.told.ExitStatus.TheVariants.{Refused}
 use Rattle.command_line.specs.declared.words.BookAct.{BookAct}
 use Rattle.command_line.specs.declared.words.BookAct.TheVariants as act
 
--- it is what these words ask for; the bytes of a file may be any
-abbrev pub IsMadeReady : BookAct → Ready → Type 0
-IsMadeReady (act.Enrol who) (ready.Enrol w) = who_of who.now ≡ Some w
-IsMadeReady (act.Roster file) (ready.Roster partners) = (text : List ℕ)
-    × IsRosterRead text (Some partners.items)
-IsMadeReady (act.Send file) (ready.Send bytes) = Unit {0}
-IsMadeReady (act.Take dir) (ready.Take folder) = folder ≡ dir
-IsMadeReady (act.Clerk told) (ready.Clerk slip) =
-    IsSlipOf told slip.who slip.words slip.text.items slip.sheet
-IsMadeReady a r = ⊥
-
--- a file may have more bytes than so many
-abbrev pub IsLonger : ℕ → Type 0
-IsLonger most = (text : List ℕ) × (most < length text)
+-- the list in a file names these depositors
+abbrev pub IsRosterIn : Reads → List ℕ → List Who → Type 0
+IsRosterIn reads file whos = (text : List ℕ) × IsWithin reads file MOST_ROSTER text
+    × IsRosterRead text (Some whos)
 
 -- a file lists no depositors: it is too long, or its text is no list
-abbrev pub IsNoRoster : Type 0
-IsNoRoster = IsLonger MOST_ROSTER ⊎ ((text : List ℕ) × IsRosterRead text None)
+abbrev pub IsNoRoster : Reads → List ℕ → Type 0
+IsNoRoster reads file = IsLonger reads file MOST_ROSTER
+    ⊎ ((text : List ℕ) × IsWithin reads file MOST_ROSTER text × IsRosterRead text None)
+
+-- it is what these words ask for; an interchange is what was read of its file, of one that is too
+-- long one byte more than it may have
+abbrev pub IsMadeReady : Reads → BookAct → Ready → Type 0
+IsMadeReady reads (act.Enrol who) (ready.Enrol w) = who_of who.now ≡ Some w
+IsMadeReady reads (act.Roster file) (ready.Roster partners) =
+    IsRosterIn reads file.now partners.items
+IsMadeReady reads (act.Send file) (ready.Send bytes) = reads file.now (MOST_BYTES + 1) bytes.items
+IsMadeReady reads (act.Take dir) (ready.Take folder) = folder ≡ dir
+IsMadeReady reads (act.Clerk told) (ready.Clerk slip) =
+    IsSlipOf reads told slip.who slip.words slip.text.items slip.sheet
+IsMadeReady reads a r = ⊥
 
 -- These words aren't made ready, for this reason. An interchange and a folder are handed in
 -- whatever they are.
-abbrev pub IsUnready : BookAct → Refusal → Type 0
-IsUnready (act.Enrol who) refusal = (refusal ≡ BadText) × (who_of who.now ≡ None)
-IsUnready (act.Roster file) refusal = (refusal ≡ BadText) × IsNoRoster
-IsUnready (act.Clerk told) refusal = IsNoSlip told refusal
-IsUnready a refusal = ⊥
+abbrev pub IsUnready : Reads → BookAct → Refusal → Type 0
+IsUnready reads (act.Enrol who) refusal = (refusal ≡ BadText) × (who_of who.now ≡ None)
+IsUnready reads (act.Roster file) refusal = (refusal ≡ BadText) × IsNoRoster reads file.now
+IsUnready reads (act.Clerk told) refusal = IsNoSlip reads told refusal
+IsUnready reads a refusal = ⊥
 
 -- the words or their files were refused, or a fault came first: the book is as before, and nothing
 -- is printed
@@ -56,14 +61,14 @@ pub record IsNotReady
     (old new : Standing) (a : BookAct) (before later : Option (List ℕ)) (ending : Ending)
     : Type 0 where
   pub left : IsNothingDone old new before later ending
-  pub why : OnOk ending ((refusal : Refusal) × IsUnready a refusal)
+  pub why : OnOk ending ((refusal : Refusal) × IsUnready reads_any a refusal)
 
 -- what the words ask for was done, at the moment that the line says, if it says one
 pub record IsDoneAt
     (old new : Standing) (a : BookAct) (at : Option Moment) (before later : Option (List ℕ))
     (ending : Ending) : Type 0 where
   pub ready : Ready
-  pub made : IsMadeReady a ready
+  pub made : IsMadeReady reads_any a ready
   pub moment : Moment
   pub given : IfSome at (λ t. moment ≡ t)
   pub performed : IsPerformed old new ready moment before later ending

@@ -1,5 +1,5 @@
 -- What a script comes to: its first row makes a book, and the others are played over it.
-use Rattle.std.specs.Prelude.{◌≡◌, ◌⊎◌, ◌∷◌, [], ℕ, List, Option, Some, None}
+use Rattle.std.specs.Prelude.{◌≡◌, ◌⊎◌, ◌∷◌, [], ℕ, List, Option, Some, None, IsUtf8}
 use Rattle.profile.specs.Header.{Who, who_of}
 use Rattle.profile.specs.Readings.{parts_at}
 use Rattle.store.specs.Fault.TheVariants.{OutOfMemory}
@@ -9,11 +9,20 @@ use Rattle.command_line.specs.declared.words.Place.TheVariants.{Script}
 use Rattle.command_line.specs.declared.words.Words.{Words}
 use Rattle.command_line.specs.declared.words.Words.TheVariants as words
 use Rattle.command_line.specs.declared.words.Task.TheVariants as task
+use Rattle.commands.specs.Files.{Reads, IsLonger, IsWithin}
 use Rattle.commands.specs.Playing.{HasPlayed, HasStopped, IsRowRead}
+use Rattle.commands.specs.Stops.{HasDeviceFault, IsUsageStop}
+use Rattle.commands.specs.declared.files.TheConstants.{MOST_SCRIPT}
 use Rattle.commands.specs.declared.told.CommandError.{CommandError}
 use Rattle.commands.specs.declared.told.CommandError.TheVariants as stops
 use Rattle.commands.specs.declared.told.ExitStatus.{ExitStatus}
 use Rattle.commands.specs.declared.told.ExitStatus.TheVariants.{Done, Refused}
+
+-- why a script or a batch in a file can't be read: the file can't, or it is too long or no text
+abbrev pub IsTextUnread : Reads → List ℕ → CommandError → Type 0
+IsTextUnread reads file stop = HasDeviceFault stop
+    ⊎ (IsUsageStop stop × (IsLonger reads file MOST_SCRIPT
+    ⊎ ((bytes : List ℕ) × IsWithin reads file MOST_SCRIPT bytes × ¬ IsUtf8 bytes)))
 
 -- the words ask for a book of this name
 abbrev pub IsInit : Words → List ℕ → Type 0

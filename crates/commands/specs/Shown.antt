@@ -13,7 +13,8 @@ use Rattle.reports.specs.Open.{depositor_list, open_report}
 use Rattle.store.specs.Open.{OpenWork, enrolled, open_of}
 use Rattle.store.specs.Sent.{text_of}
 use Rattle.store.specs.Standing.{Standing, IsQueryFault, IsUnchanged, OfKept}
-use Rattle.commands.specs.Stops.{IsDeviceStop, IsFaultThat}
+use Rattle.commands.specs.Printing.{AppendsFront}
+use Rattle.commands.specs.Stops.{IsDeviceStop, IsSilent}
 use Rattle.commands.specs.Telling.{line_of}
 use Rattle.commands.specs.declared.told.CommandError.{CommandError}
 use Rattle.commands.specs.declared.told.ExitStatus.{ExitStatus}
@@ -70,18 +71,22 @@ pub record IsShown
   pub printed : Appends before later shown.0
   pub says : status ≡ shown.1
 
--- what is to be shown of the register was read, and couldn't be told
+-- what is to be shown of the register was read, and couldn't be told: of it, there is a beginning
 pub record IsUnshown
-    (old new : Standing) (shown : List Entry → Shown) (stop : CommandError) : Type 0 where
+    (old new : Standing) (shown : List Entry → Shown) (before later : Option (List ℕ))
+    (stop : CommandError) : Type 0 where
   pub what : Shown
   pub read : OfKept old new (λ L. what ≡ shown L)
+  pub printed : AppendsFront before later what.0
   pub why : IsDeviceStop stop
 
 -- what kept it from being shown: a fault of the book by which it wasn't read, or one of a device
 -- after that
-abbrev pub IsShowStopped : Standing → Standing → (List Entry → Shown) → CommandError → Type 0
-IsShowStopped old new shown stop =
-    IsFaultThat stop (λ fault. IsQueryFault fault old new) ⊎ IsUnshown old new shown stop
+abbrev pub IsShowStopped : Standing → Standing → (List Entry → Shown) → Option (List ℕ)
+    → Option (List ℕ) → CommandError → Type 0
+IsShowStopped old new shown before later stop =
+    IsSilent (λ fault. IsQueryFault fault old new) before later stop
+    ⊎ IsUnshown old new shown before later stop
 
 -- what is meant was shown, and the book is as before
 pub record IsLookAt
@@ -89,4 +94,4 @@ pub record IsLookAt
     (ending : Result ExitStatus CommandError) : Type 0 where
   pub shown : OfKept old new (λ L. IfOk ending (IsShown (meant L) before later))
   pub same : IsUnchanged old new
-  pub stopped : IfErr ending (IsShowStopped old new meant)
+  pub stopped : IfErr ending (IsShowStopped old new meant before later)

@@ -1,17 +1,20 @@
 -- What stops a command: a fault of the book, or one of a device.
-use Rattle.std.specs.Prelude.{◌≡◌, ◌⊎◌, false, Option, Some, None}
+use Rattle.std.specs.Prelude.{◌≡◌, ◌⊎◌, ℕ, [], false, List, Option, Some, None}
 use Rattle.std.specs.IoError.{error_kind}
+use Rattle.std.specs.Io.KnownBytes.{Appends}
 use Rattle.std.specs.declared.io.Error.{Error}
 use Rattle.profile.specs.declared.rules.Rules.TheVariants.{Two}
-use Rattle.profile.specs.Accepted.{after}
+use Rattle.profile.specs.Accepted.{after, reply_to}
 use Rattle.profile.specs.Moments.{Moment}
 use Rattle.profile.specs.Register.{Command}
-use Rattle.store.specs.Standing.{Standing, IsUsable, IsFault, IsQueryFault, OfUsable}
+use Rattle.profile.specs.Reply.{Reply}
+use Rattle.store.specs.Standing.{Standing, IsUsable, IsFault, IsQueryFault, OfKept, OfUsable}
 use Rattle.store.specs.Fault.{Fault}
 use Rattle.store.specs.Fault.TheVariants as faults
 use Rattle.folders.specs.Folders.{fault_of_kind}
 use Rattle.command_line.specs.declared.words.LineFault.{LineFault}
 use Rattle.command_line.specs.declared.words.LineFault.TheVariants as lines
+use Rattle.commands.specs.Printing.{AppendsFront}
 use Rattle.commands.specs.declared.told.CommandError.{CommandError}
 use Rattle.commands.specs.declared.told.CommandError.TheVariants as stops
 
@@ -52,18 +55,28 @@ IsFaultThat (stops.Usage text) P = ⊥
 IsFaultThat (stops.Fault fault) P = P fault
 IsFaultThat (stops.Caused fault cause) P = P fault
 
--- a command was answered, and its reply couldn't be told
+-- a fault of which this is so, and of an answer nothing is printed
+abbrev pub IsSilent : (Fault → Type 0) → Option (List ℕ) → Option (List ℕ) → CommandError → Type 0
+IsSilent P before later stop = IsFaultThat stop P × Appends before later []
+
+-- a command was answered, and its reply couldn't be told: of what is printed of it, there is a
+-- beginning
 pub record IsUntold
-    (old new : Standing) (c : Command) (t : Moment) (stop : CommandError) : Type 0 where
+    (old new : Standing) (c : Command) (t : Moment) (shown : Reply → List ℕ)
+    (before later : Option (List ℕ)) (stop : CommandError) : Type 0 where
   pub opened : new.shut ≡ false
   pub done : OfUsable old new (λ L. IsUsable new (after Two old.warehouse L (c, t)))
+  pub printed : OfKept old new
+      (λ L. AppendsFront before later (shown (reply_to Two old.warehouse L c t)))
   pub why : IsDeviceStop stop
 
--- what stopped a command: a fault of the book by which it wasn't answered, or one of a device after
--- that
-abbrev pub IsStopped : Standing → Standing → Command → Moment → CommandError → Type 0
-IsStopped old new c t stop = IsFaultThat stop (λ fault. IsFault fault old new)
-    ⊎ IsUntold old new c t stop
+-- what stopped a command of whose reply so much is printed: a fault of the book by which it wasn't
+-- answered, or one of a device after that
+abbrev pub IsStopped : Standing → Standing → Command → Moment → (Reply → List ℕ) → Option (List ℕ)
+    → Option (List ℕ) → CommandError → Type 0
+IsStopped old new c t shown before later stop =
+    IsSilent (λ fault. IsFault fault old new) before later stop
+    ⊎ IsUntold old new c t shown before later stop
 
 -- what kept a reason from being told: a fault of the book by which it wasn't read, or one of a
 -- device

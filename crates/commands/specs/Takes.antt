@@ -13,7 +13,8 @@ use Rattle.store.specs.Standing.{Standing}
 use Rattle.commands.specs.declared.told.CommandError.{CommandError}
 use Rattle.commands.specs.declared.told.ExitStatus.{ExitStatus}
 use Rattle.commands.specs.declared.told.ExitStatus.TheVariants.{Done, Refused}
-use Rattle.commands.specs.Stops.{IsDeviceStop, IsFaultThat}
+use Rattle.commands.specs.Printing.{AppendsFront}
+use Rattle.commands.specs.Stops.{IsDeviceStop, IsSilent}
 
 abbrev is_long : WhyPassed → Bool
 is_long LongName = true
@@ -50,20 +51,25 @@ pub record IsFolderTaken
   pub says : status ≡ (if list_any is_left passed then Refused
       else status_of_files (map became_in files))
 
--- they were taken, and couldn't be told
-pub record IsFolderUntold (old new : Standing) (t : Moment) (stop : CommandError) : Type 0 where
+-- they were taken, and couldn't be told: of what is printed of them, there is a beginning
+pub record IsFolderUntold
+    (old new : Standing) (t : Moment) (before later : Option (List ℕ)) (stop : CommandError)
+    : Type 0 where
   pub texts : List (List ℕ)
-  pub told : List Became
-  pub taken : AreTextsTaken old new t texts told
+  pub files : List Taken
+  pub taken : AreTextsTaken old new t texts (map became_in files)
+  pub printed : AppendsFront before later (flat_map line_in files)
   pub why : IsDeviceStop stop
 
 -- the folder stopped at a file, or wasn't told
-abbrev pub IsFolderHalted : Standing → Standing → Moment → CommandError → Type 0
-IsFolderHalted old new t stop = IsFaultThat stop (λ fault. IsFolderStopped fault old new t)
-    ⊎ IsFolderUntold old new t stop
+abbrev pub IsFolderHalted : Standing → Standing → Moment → Option (List ℕ) → Option (List ℕ)
+    → CommandError → Type 0
+IsFolderHalted old new t before later stop =
+    IsSilent (λ fault. IsFolderStopped fault old new t) before later stop
+    ⊎ IsFolderUntold old new t before later stop
 
 -- how taking a folder ended
 abbrev pub IsTaking : Standing → Standing → Moment → Option (List ℕ) → Option (List ℕ)
     → Result ExitStatus CommandError → Type 0
 IsTaking old new t before later (Ok status) = IsFolderTaken old new t before later status
-IsTaking old new t before later (Err stop) = IsFolderHalted old new t stop
+IsTaking old new t before later (Err stop) = IsFolderHalted old new t before later stop

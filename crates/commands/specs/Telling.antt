@@ -25,10 +25,14 @@ status_of (replies.Accepted text) = statuses.Done
 status_of (replies.Stored text) = statuses.Done
 status_of (replies.Refused r text) = statuses.Refused
 
--- the text of a reply was printed, and the status says whether it is a refusal
+-- what is printed of a reply
+abbrev pub printed_of : replies.Reply → List ℕ
+printed_of reply = line_of (text_of reply)
+
+-- it was printed, and the status says whether it is a refusal
 pub record IsPrinted
     (reply : replies.Reply) (before later : Option (List ℕ)) (status : ExitStatus) : Type 0 where
-  pub printed : Appends before later (line_of (text_of reply))
+  pub printed : Appends before later (printed_of reply)
   pub says : status ≡ status_of reply
 
 -- `refused NUMBER NAME`, and a line feed

@@ -1,4 +1,4 @@
-ghost use Rattle.std.specs.Prelude.{◌≡◌, true, IfOk, IfErr, IfSome, OnOk};
+ghost use Rattle.std.specs.Prelude.{◌≡◌, ◌⊎◌, true, IfOk, IfErr, IfNone, IfSome, OnErr, OnOk};
 ghost use Rattle.std.specs.Io.KnownBytes.{Appends};
 ghost use Rattle.profile.specs.declared.rules.Rules.TheVariants.{Two};
 ghost use Rattle.profile.specs.Accepted.{is_command};
@@ -7,22 +7,24 @@ ghost use Rattle.store.specs.Asked.{asked};
 ghost use Rattle.store.specs.Runs.{told};
 ghost use Rattle.store.specs.Standing.{GoesOn};
 ghost use Rattle.commands.specs.Acting.{IsHandedIn, IsPerformed, IsSaid, IsSaidOf};
+ghost use Rattle.commands.specs.Clock.{IsMinuteOf};
+ghost use Rattle.commands.specs.Printing.{AppendsFront};
 ghost use Rattle.commands.specs.Readying.{IsMadeReady, IsUnready};
-ghost use Rattle.commands.specs.Stops.{IsDeviceStop};
-ghost use Rattle.commands.specs.Telling.{IsPrinted, said_of};
+ghost use Rattle.commands.specs.Stops.{HasDeviceFault, IsDeviceStop, IsUsageStop};
+ghost use Rattle.commands.specs.Telling.{IsPrinted, printed_of, said_of};
 
 use crate::causes::about_file;
-use crate::clock::moment_for;
+use crate::clock::{TimeSource, moment_for};
 use crate::enrolments::{enrol_all, read_roster};
 use crate::slips::{Slip, clerk, slip_of};
 use crate::takes::take;
 use crate::told::{CommandError, ExitStatus, tell_refusal, tell_text};
 use crate::verbosity::Verbosity;
 use command_line::BookAct;
+use folders::FileSystem;
 use intake::read_interchange;
 use std::alloc::Global;
 use std::io;
-use std::rt::{Clock, Files};
 use store::{Command, Keeper, Moment, Refusal, Reply, Who, submit};
 
 /// What is to be done to a book, its words tested and its files read, so that only the book and the
@@ -45,12 +47,13 @@ pub enum Ready<'a> {
 // file is read, then a sheet or a list is tested. Refused are 32, a word or a list that can't be
 // read, also one that is too long, and what keeps a sheet from being one (30 to 33, of one that is
 // too long 32); a file that can't be read is Device (44).
-fn make_ready<'a, R: Files + AllocGlobal>(
+fn make_ready<'a, R: FileSystem + AllocGlobal>(
     rt: &R,
     act: &BookAct<'a>,
 ) -> Result<Result<Ready<'a>, Refusal>, CommandError>
-    ensures ready { IfOk result (λ made. IfOk made (IsMadeReady act.now)) }
-    ensures unready { IfOk result (λ made. IfErr made (IsUnready act.now)) }
+    ensures ready { IfOk result (λ made. IfOk made (IsMadeReady (R.reads rt.now) act.now)) }
+    ensures unready { IfOk result (λ made. IfErr made (IsUnready (R.reads rt.now) act.now)) }
+    ensures unread { IfErr result HasDeviceFault }
 {
     match act {
         BookAct::Enrol { who } => match Who::new(who.as_bytes()) {
@@ -75,14 +78,18 @@ fn make_ready<'a, R: Files + AllocGlobal>(
 
 /// What a line says is to be done, made ready, and its moment: the one that the line says, or the
 /// clock's. A clock that can't be used is told before anything is read.
-pub fn ready_at<'a, R: Files + Clock + AllocGlobal>(
+pub fn ready_at<'a, R: FileSystem + TimeSource + AllocGlobal>(
     rt: &R,
     act: &BookAct<'a>,
     at: Option<Moment>,
 ) -> Result<Result<(Ready<'a>, Moment), Refusal>, CommandError>
-    ensures ready { IfOk result (λ made. IfOk made (λ m. IsMadeReady act.now m.0)) }
-    ensures unready { IfOk result (λ made. IfErr made (IsUnready act.now)) }
+    ensures ready { IfOk result
+        (λ made. IfOk made (λ m. IsMadeReady (R.reads rt.now) act.now m.0)) }
+    ensures unready { IfOk result (λ made. IfErr made (IsUnready (R.reads rt.now) act.now)) }
     ensures moment { IfOk result (λ made. IfOk made (λ m. IfSome at (λ t. m.1 ≡ t))) }
+    ensures shown { IfNone at (IfOk result
+        (λ made. IfOk made (λ m. IsMinuteOf (R.shows rt.now) m.1))) }
+    ensures unread { IfErr result (λ stop. HasDeviceFault stop ⊎ IsUsageStop stop) }
 {
     let moment = moment_for(rt, at)?;
     match make_ready(rt, act)? {
@@ -92,7 +99,7 @@ pub fn ready_at<'a, R: Files + Clock + AllocGlobal>(
 }
 
 // Prints the text of a reply, and tells a refusal.
-#[tactic(auto, using(crate::proofs::TellingLaws::appends_nothing,))]
+#[tactic(auto, using(crate::proofs::TellingLaws::all_begun, crate::proofs::TellingLaws::appends_nothing))]
 fn tell_reply<W: io::Write, E: io::Write>(
     alloc: Global,
     reply: &Reply,
@@ -101,6 +108,8 @@ fn tell_reply<W: io::Write, E: io::Write>(
 ) -> Result<ExitStatus, CommandError>
     ensures printed { IfOk result
         (λ status. IsPrinted (told reply.now) (W.contents out.old) (W.contents out.new) status) }
+    ensures front { OnErr result
+        (AppendsFront (W.contents out.old) (W.contents out.new) (printed_of (told reply.now))) }
     ensures said { OnOk result
         (Appends (E.contents err.old) (E.contents err.new) (said_of (told reply.now))) }
     ensures halted { IfErr result IsDeviceStop }
@@ -117,6 +126,7 @@ fn tell_reply<W: io::Write, E: io::Write>(
 }
 
 // Submits a command, prints the text of its reply, a refused one's too, and tells a refusal.
+#[tactic(auto, using(crate::proofs::TellingLaws::appends_nothing))]
 fn hand_in<K: Keeper, W: io::Write, E: io::Write>(
     alloc: Global,
     book: &mut K,
@@ -157,7 +167,7 @@ fn enrol<K: Keeper, W: io::Write, E: io::Write>(
 
 /// Does to a book what was made ready, prints what comes of it, and tells a refusal on standard
 /// error, and as much more as is asked for.
-pub fn perform<R: Files + AllocGlobal + Clone + Drop, K: Keeper, W: io::Write, E: io::Write>(
+pub fn perform<R: FileSystem + AllocGlobal + Clone + Drop, K: Keeper, W: io::Write, E: io::Write>(
     rt: &R,
     book: &mut K,
     ready: &Ready<'_>,

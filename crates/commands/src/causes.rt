@@ -8,6 +8,7 @@ ghost use Rattle.commands.specs.Stops.{fault_in, HasDeviceFault};
 use crate::files::{MOST_SHEET, read_within};
 use crate::told::CommandError;
 use command_line::{BookAct, ClerkWords, Show, Task};
+use folders::FileSystem;
 use intake::FolderStop;
 use itoa::Buffer;
 use profile::{MOST_NUMBER, MOST_TICKET};
@@ -15,7 +16,6 @@ use sheet_texts::first_bad;
 use std::alloc::{AllocError, Global};
 use std::io;
 use std::net::SocketAddr;
-use std::rt::Files;
 use store::{Fault, Ident, Refusal, SheetKind, Who};
 
 // A name, and what is said of it.
@@ -309,7 +309,7 @@ pub(crate) fn at_line(
 }
 
 // Why the sheet in a file is refused.
-fn about_sheet<R: Files + AllocGlobal>(
+fn about_sheet<R: FileSystem + AllocGlobal>(
     rt: &R,
     words: &ClerkWords<'_>,
     refusal: Refusal,
@@ -326,7 +326,7 @@ fn about_sheet<R: Files + AllocGlobal>(
 
 /// Why the words of a line, or its sheet, are refused (30 to 33), as a line without its end; None
 /// where that isn't known.
-pub fn about_line<R: Files + AllocGlobal>(
+pub fn about_line<R: FileSystem + AllocGlobal>(
     rt: &R,
     task: &Task<'_>,
     refusal: Refusal,

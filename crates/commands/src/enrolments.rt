@@ -1,38 +1,28 @@
 //! Depositors of a list, enrolled one after the other.
 ghost use Rattle.std.specs.Io.KnownBytes.{Appends};
-ghost use Rattle.std.specs.Prelude.{◌≡◌, ◌++◌, ℕ, List, Some, IfErr, IfNone, IfOk, IfSome, OnOk, OnErr, option_map, codes, map};
+ghost use Rattle.std.specs.Prelude.{◌≡◌, IfErr, IfNone, IfOk, IfSome, OnOk, OnErr};
 ghost use Rattle.profile.specs.declared.rules.Rules.TheVariants.{Two};
 ghost use Rattle.profile.specs.Accepted.{reply_to, after};
-ghost use Rattle.profile.specs.Header.{who_text};
 ghost use Rattle.profile.specs.Register.{Enrol};
 ghost use Rattle.store.specs.Runs.{told};
 ghost use Rattle.store.specs.Standing.{IsUsable, KeepsLegal, GoesOn, LeavesEither, OfKept, OfUsable};
 ghost use Rattle.commands.specs.Enrolling.{AreEnrolled, AreEnrolledUntil, line_of};
-ghost use Rattle.commands.specs.Readying.{IsNoRoster};
-ghost use Rattle.commands.specs.Stops.{IsDeviceStop, IsStopped};
+ghost use Rattle.commands.specs.Printing.{AppendsFront};
+ghost use Rattle.commands.specs.Readying.{IsNoRoster, IsRosterIn};
+ghost use Rattle.commands.specs.Stops.{HasDeviceFault, IsDeviceStop, IsStopped};
 ghost use Rattle.commands.specs.Telling.{status_of};
-ghost use Rattle.command_line.specs.Rosters as meant;
 
 use crate::files::{MOST_ROSTER, read_within};
+use crate::printing::print_pieces;
 use crate::told::{CommandError, ExitStatus};
 use command_line::depositors;
+use folders::FileSystem;
+use itoa::Buffer;
 use std::alloc::Global;
 use std::io;
-use std::rt::Files;
 use store::{Command, Keeper, Moment, Reply, Who, submit};
 
-// Prints a partner as `ZZ-ACME`, and a space.
-fn tell_partner<W: io::Write>(out: &mut W, who: &Who) -> Result<(), CommandError>
-    ensures printed { OnOk result
-        (Appends (W.contents out.old) (W.contents out.new) (who_text who.now ++ codes " ")) }
-    ensures halted { IfErr result IsDeviceStop }
-{
-    out.write_all(who.text())?;
-    out.write_all(b" ")?;
-    Ok(())
-}
-
-// Prints what became of a depositor.
+// Prints what became of a depositor, as `ZZ-ACME enrolled`.
 fn tell_enrolment<W: io::Write>(
     out: &mut W,
     who: &Who,
@@ -41,23 +31,27 @@ fn tell_enrolment<W: io::Write>(
     ensures says { IfOk result (λ status. status ≡ status_of (told reply.now)) }
     ensures printed { OnOk result
         (Appends (W.contents out.old) (W.contents out.new) (line_of who.now (told reply.now))) }
+    ensures front { OnErr result
+        (AppendsFront (W.contents out.old) (W.contents out.new) (line_of who.now
+        (told reply.now))) }
     ensures halted { IfErr result IsDeviceStop }
 {
-    tell_partner(out, who)?;
     match reply {
         Reply::Refused { refusal, .. } => {
-            let number = refusal.number();
-            write!(out, "refused {number}\n")?;
+            let mut number = Buffer::new();
+            let digits = number.format(refusal.number());
+            print_pieces(out, &[who.text(), b" refused ", digits.as_bytes(), b"\n"])?;
             Ok(ExitStatus::Refused)
         }
         _ => {
-            out.write_all(b"enrolled\n")?;
+            print_pieces(out, &[who.text(), b" enrolled\n"])?;
             Ok(ExitStatus::Done)
         }
     }
 }
 
 // Enrols a depositor and prints what became of it.
+#[tactic(auto, using(crate::proofs::TellingLaws::appends_nothing))]
 fn enrol_one<K: Keeper, W: io::Write>(
     alloc: Global,
     book: &mut K,
@@ -82,7 +76,8 @@ fn enrol_one<K: Keeper, W: io::Write>(
         (λ L. OnErr result (LeavesEither (K.standing book.new) L
         (after Two (K.standing book.old).warehouse L (Enrol who, moment)))) }
     ensures stopped { IfErr result
-        (IsStopped (K.standing book.old) (K.standing book.new) (Enrol who) moment) }
+        (IsStopped (K.standing book.old) (K.standing book.new) (Enrol who) moment (line_of who)
+        (W.contents out.old) (W.contents out.new)) }
     ensures goes { GoesOn (K.standing book.old) (K.standing book.new) }
 {
     let reply = submit(alloc, book, &Command::Enrol(who), moment)?;
@@ -102,7 +97,8 @@ pub fn enrol_all<K: Keeper, W: io::Write>(
         (AreEnrolled (K.standing book.old) (K.standing book.new) partners.now moment
         (W.contents out.old) (W.contents out.new)) }
     ensures stopped { IfErr result
-        (AreEnrolledUntil (K.standing book.old) (K.standing book.new) partners.now moment) }
+        (AreEnrolledUntil (K.standing book.old) (K.standing book.new) partners.now moment
+        (W.contents out.old) (W.contents out.new)) }
     ensures goes { GoesOn (K.standing book.old) (K.standing book.new) }
 {
     let mut status = ExitStatus::Done;
@@ -114,14 +110,14 @@ pub fn enrol_all<K: Keeper, W: io::Write>(
 
 /// The depositors of the list in a file; None where it is no such list, or has more than 1,048,576
 /// bytes. A file that can't be read is Device (44).
-pub fn read_roster<R: Files + AllocGlobal>(
+pub fn read_roster<R: FileSystem + AllocGlobal>(
     rt: &R,
     file: &str,
 ) -> Result<Option<Vec<Who>>, CommandError>
     ensures read { IfOk result
-        (λ found. IfSome found (λ whos. (text : List ℕ)
-        × meant.IsRosterRead text (Some whos.items))) }
-    ensures none { IfOk result (λ found. IfNone found IsNoRoster) }
+        (λ found. IfSome found (λ whos. IsRosterIn (R.reads rt.now) file.now whos.items)) }
+    ensures none { IfOk result (λ found. IfNone found (IsNoRoster (R.reads rt.now) file.now)) }
+    ensures unread { IfErr result HasDeviceFault }
 {
     match read_within(rt, file, MOST_ROSTER)? {
         Some(text) => Ok(depositors(rt.alloc(), &text)?),

@@ -15,11 +15,11 @@ use crate::slips::{Slip, clerk, lines_in};
 use crate::told::{CommandError, ExitStatus, tell_refusal};
 use crate::verbosity::Verbosity;
 use command_line::{ClerkWords, Task};
+use folders::FileSystem;
 use itoa::Buffer;
 use sheet_texts::line_of_pair;
 use std::alloc::{AllocError, Global};
 use std::io;
-use std::rt::Files;
 use store::{Goods, Keeper, Key, KnownOrder, Page, Refusal, SheetKind, need};
 
 /// A pair of item and lot that a book keeps, as far as it may be why a clerk's sheet is refused.
@@ -306,7 +306,7 @@ pub fn tell_cause<E: io::Write>(err: &mut E, cause: &str) -> io::Result<()>
 
 /// Tells why a line's words or files are refused (30 to 33), and where it is asked for which of
 /// them it is. What can't be told of that is left out: the refusal stands.
-pub fn tell_unready<R: Files + AllocGlobal, E: io::Write>(
+pub fn tell_unready<R: FileSystem + AllocGlobal, E: io::Write>(
     rt: &R,
     task: &Task<'_>,
     refusal: Refusal,

@@ -1,26 +1,33 @@
 ghost use Rattle.std.specs.Prelude.{◌≡◌, [], ◌∷◌, ℕ, List, MatchOption, Ok, IfOk, IfErr, filter, map};
 ghost use Rattle.profile.specs.Readings.{parts_at};
 ghost use Rattle.store.specs.Standing.{GoesOn, IsUnchanged};
+ghost use Rattle.commands.specs.Files.{IsWithin};
 ghost use Rattle.commands.specs.Looking.{IsLineDone, IsView};
 ghost use Rattle.commands.specs.Playing.{asks, asking, rows_left, IsRowAnswered, IsRowStopped, HasPlayed, HasStopped};
 ghost use Rattle.commands.specs.Readying.{IsChange};
 ghost use Rattle.commands.specs.Scripts.{CanMakeBook, IsMadeBy, IsScriptDone, IsScriptStopped, IsUnnamed};
 
 use crate::acts::{perform, ready_at};
-use crate::files::{MOST_SCRIPT, read_within};
+use crate::clock::TimeSource;
+use crate::files::{MOST_SCRIPT, read_lines};
 use crate::reasons::{tell_reason, tell_unready};
 use crate::shows::{ask, show};
 use crate::slips::slip_of;
 use crate::told::{CommandError, ExitStatus, usage};
 use crate::verbosity::Verbosity;
 use command_line::{BookAct, Place, Show, Task, Words, line};
+use folders::FileSystem;
 use std::alloc::{AllocError, Global};
 use std::io;
-use std::rt::{Clock, Files};
 use store::{Fault, Keeper, Moment, Refusal, ReplayBook, Warehouse, Who};
 
 // Changes the book as a line says.
-fn change<R: Files + Clock + AllocGlobal + Clone + Drop, K: Keeper, W: io::Write, E: io::Write>(
+fn change<
+    R: FileSystem + TimeSource + AllocGlobal + Clone + Drop,
+    K: Keeper,
+    W: io::Write,
+    E: io::Write,
+>(
     rt: &R,
     book: &mut K,
     task: &Task<'_>,
@@ -41,7 +48,7 @@ fn change<R: Files + Clock + AllocGlobal + Clone + Drop, K: Keeper, W: io::Write
 }
 
 // Shows of the book what a line asks for.
-fn look<R: Files + AllocGlobal, K: Keeper, W: io::Write, E: io::Write>(
+fn look<R: FileSystem + AllocGlobal, K: Keeper, W: io::Write, E: io::Write>(
     rt: &R,
     book: &mut K,
     task: &Task<'_>,
@@ -61,7 +68,12 @@ fn look<R: Files + AllocGlobal, K: Keeper, W: io::Write, E: io::Write>(
 }
 
 // Does what a line asks for, over the book.
-fn answer<R: Files + Clock + AllocGlobal + Clone + Drop, K: Keeper, W: io::Write, E: io::Write>(
+fn answer<
+    R: FileSystem + TimeSource + AllocGlobal + Clone + Drop,
+    K: Keeper,
+    W: io::Write,
+    E: io::Write,
+>(
     rt: &R,
     book: &mut K,
     words: &Words<'_>,
@@ -84,7 +96,7 @@ fn answer<R: Files + Clock + AllocGlobal + Clone + Drop, K: Keeper, W: io::Write
 }
 
 // Tells why the book refused what a clerk's line says, where a line of the sheet is the reason.
-fn tell_why<R: Files + AllocGlobal, K: Keeper, E: io::Write>(
+fn tell_why<R: FileSystem + AllocGlobal, K: Keeper, E: io::Write>(
     rt: &R,
     book: &mut K,
     words: &Words<'_>,
@@ -117,7 +129,12 @@ fn words_of<'a>(alloc: Global, row: &'a str) -> Result<Vec<&'a str>, AllocError>
 
 // Does what a row of a script or a batch asks for, over the book. What can't be told of a refusal
 // is left out: the refusal stands.
-fn answer_row<R: Files + Clock + AllocGlobal + Clone + Drop, K: Keeper, W: io::Write, E: io::Write>(
+fn answer_row<
+    R: FileSystem + TimeSource + AllocGlobal + Clone + Drop,
+    K: Keeper,
+    W: io::Write,
+    E: io::Write,
+>(
     rt: &R,
     book: &mut K,
     row: &str,
@@ -179,7 +196,12 @@ fn first_row(text: &str) -> (&str, Option<&str>)
 
 // Does what the rows of a text ask for over a book, one after the other, each once; the first of
 // them has this number, from 0 on. Where a row stops it, its number is told if that is wanted.
-fn play_from<R: Files + Clock + AllocGlobal + Clone + Drop, K: Keeper, W: io::Write, E: io::Write>(
+fn play_from<
+    R: FileSystem + TimeSource + AllocGlobal + Clone + Drop,
+    K: Keeper,
+    W: io::Write,
+    E: io::Write,
+>(
     rt: &R,
     book: &mut K,
     text: Option<&str>,
@@ -225,7 +247,7 @@ fn play_from<R: Files + Clock + AllocGlobal + Clone + Drop, K: Keeper, W: io::Wr
 /// What was done by then stays done. Where it is asked for, the number of each line that is refused
 /// is told too, with its cause before it.
 pub fn play_over<
-    R: Files + Clock + AllocGlobal + Clone + Drop,
+    R: FileSystem + TimeSource + AllocGlobal + Clone + Drop,
     K: Keeper,
     W: io::Write,
     E: io::Write,
@@ -252,7 +274,7 @@ fn no_line(alloc: Global) -> CommandError {
 }
 
 // The book that the first row makes; None where its name is refused.
-fn made<R: Files + AllocGlobal, E: io::Write>(
+fn made<R: FileSystem + AllocGlobal, E: io::Write>(
     rt: &R,
     row: &str,
     verbosity: Verbosity,
@@ -301,7 +323,7 @@ fn opening_row(text: &str) -> Option<(usize, &str, Option<&str>)>
 // Plays the lines of a script, the first of which makes the book. A refusal goes on, but of that
 // line; anything else that isn't done stops it. The number of such a line is told where it is asked
 // for.
-fn play<R: Files + Clock + AllocGlobal + Clone + Drop, W: io::Write, E: io::Write>(
+fn play<R: FileSystem + TimeSource + AllocGlobal + Clone + Drop, W: io::Write, E: io::Write>(
     rt: &R,
     text: &str,
     verbosity: Verbosity,
@@ -333,22 +355,14 @@ fn play<R: Files + Clock + AllocGlobal + Clone + Drop, W: io::Write, E: io::Writ
     }
 }
 
-/// The text of a script or a batch in a file. One that is no UTF-8 text, or has more than
-/// 16,777,216 bytes, is a usage fault, a file that can't be read Device (44).
-pub fn read_lines<R: Files + AllocGlobal>(rt: &R, file: &str) -> Result<String, CommandError> {
-    let Some(bytes) = read_within(rt, file, MOST_SCRIPT)? else {
-        return Err(usage(rt.alloc(), "a script has at most 16,777,216 bytes\n"));
-    };
-    match String::from_utf8(bytes) {
-        Ok(text) => Ok(text),
-        Err(_) => Err(usage(rt.alloc(), "a script is UTF-8 text\n")),
-    }
-}
-
 /// Runs the script in a file over a new book in memory. A script that can't be read as words is a
 /// usage fault; what was printed before it, or before a fault, stays. Where it is asked for, the
 /// number of each line that is refused or stops it is told.
-pub fn run_script<R: Files + Clock + AllocGlobal + Clone + Drop, W: io::Write, E: io::Write>(
+pub fn run_script<
+    R: FileSystem + TimeSource + AllocGlobal + Clone + Drop,
+    W: io::Write,
+    E: io::Write,
+>(
     rt: &R,
     file: &str,
     verbosity: Verbosity,
@@ -356,6 +370,7 @@ pub fn run_script<R: Files + Clock + AllocGlobal + Clone + Drop, W: io::Write, E
     err: &mut E,
 ) -> Result<ExitStatus, CommandError>
     ensures { IfOk result (λ status. (text : List ℕ)
+        × IsWithin (R.reads rt.now) file.now MOST_SCRIPT text
         × IsScriptDone ⟦<ReplayBook as Keeper>⟧.standing W.contents (asking text) out.old out.new
         status) }
 {

@@ -1,5 +1,5 @@
 //! What is shown of a book, which stays as it is.
-ghost use Rattle.std.specs.Prelude.{◌≡◌, false, Some, IfErr, IfOk, option_map};
+ghost use Rattle.std.specs.Prelude.{◌≡◌, false, Some, IfErr, IfOk, OnErr, option_map};
 ghost use Rattle.profile.specs.Decision.{standing as history_of};
 ghost use Rattle.profile.specs.Header.{who_of};
 ghost use Rattle.profile.specs.Register.{own};
@@ -7,9 +7,12 @@ ghost use Rattle.profile.specs.Rows.{stock_of, outbox_of};
 ghost use Rattle.store.specs.Open.{open_of, enrolled};
 ghost use Rattle.store.specs.Sent.{text_of};
 ghost use Rattle.commands.specs.Looking.{IsAskedFor, IsLook, asked_for, is_readable};
+ghost use Rattle.commands.specs.Printing.{AppendsFront};
+ghost use Rattle.commands.specs.Refused.{IsLookSaid, IsWhySaid, refused_order, refused_stranger};
 ghost use Rattle.commands.specs.Stops.{IsDeviceStop};
 ghost use Rattle.commands.specs.Shown.{IsLookAt, IsShown, shown_stock, shown_open, shown_list, shown_text, shown_order, shown_depositors};
 
+use crate::printing::print;
 use crate::told::{CommandError, ExitStatus, tell_refusal, tell_text};
 use command_line::Show;
 use intake::owner;
@@ -70,6 +73,7 @@ pub fn ask<'a>(show: &Show<'a>) -> Result<Look<'a>, Refusal>
 
 // Prints what a depositor has: the stock report, or its export as CSV. Refused is 20, an unknown
 // depositor.
+#[tactic(auto, using(crate::proofs::TellingLaws::appends_nothing))]
 fn stock<K: Keeper, W: io::Write, E: io::Write>(
     alloc: Global,
     book: &mut K,
@@ -81,10 +85,13 @@ fn stock<K: Keeper, W: io::Write, E: io::Write>(
     ensures looked { IsLookAt (K.standing book.old) (K.standing book.new)
         (λ L. shown_stock is_csv (stock_of L who))
         (W.contents out.old) (W.contents out.new) result }
+    ensures said { IsWhySaid (K.standing book.old) (K.standing book.new)
+        (λ L. refused_stranger (stock_of L who))
+        (E.contents err.old) (E.contents err.new) result }
 {
     match store::stock(book, who)? {
         Some(rows) => {
-            out.write_all(&stock_text(alloc, &rows, is_csv)?)?;
+            print(out, &stock_text(alloc, &rows, is_csv)?)?;
             Ok(ExitStatus::Done)
         }
         None => tell_refusal(alloc, err, Refusal::UnknownDepositor),
@@ -92,6 +99,7 @@ fn stock<K: Keeper, W: io::Write, E: io::Write>(
 }
 
 // Prints what a depositor has open. Refused is 20, an unknown depositor.
+#[tactic(auto, using(crate::proofs::TellingLaws::appends_nothing))]
 fn open<K: Keeper, W: io::Write, E: io::Write>(
     alloc: Global,
     book: &mut K,
@@ -102,10 +110,13 @@ fn open<K: Keeper, W: io::Write, E: io::Write>(
     ensures looked { IsLookAt (K.standing book.old) (K.standing book.new)
         (λ L. shown_open (open_of L who))
         (W.contents out.old) (W.contents out.new) result }
+    ensures said { IsWhySaid (K.standing book.old) (K.standing book.new)
+        (λ L. refused_stranger (open_of L who))
+        (E.contents err.old) (E.contents err.new) result }
 {
     match book.open(who)? {
         Some(page) => {
-            out.write_all(&open_report(alloc, &page)?)?;
+            print(out, &open_report(alloc, &page)?)?;
             Ok(ExitStatus::Done)
         }
         None => tell_refusal(alloc, err, Refusal::UnknownDepositor),
@@ -114,6 +125,7 @@ fn open<K: Keeper, W: io::Write, E: io::Write>(
 
 // Prints the picking sheet of an order. Refused are 20, an unknown depositor, 24, an unknown order,
 // and 25, an order that was picked.
+#[tactic(auto, using(crate::proofs::TellingLaws::appends_nothing))]
 fn order<K: Keeper, W: io::Write, E: io::Write>(
     alloc: Global,
     book: &mut K,
@@ -125,6 +137,9 @@ fn order<K: Keeper, W: io::Write, E: io::Write>(
     ensures looked { IsLookAt (K.standing book.old) (K.standing book.new)
         (λ L. shown_order number.now (history_of (own L who)))
         (W.contents out.old) (W.contents out.new) result }
+    ensures said { IsWhySaid (K.standing book.old) (K.standing book.new)
+        (λ L. refused_order number.now (history_of (own L who)))
+        (E.contents err.old) (E.contents err.new) result }
 {
     let need = Need::order(alloc, number.as_bytes())?;
     let Some(page) = book.load(who, &need)? else {
@@ -132,7 +147,7 @@ fn order<K: Keeper, W: io::Write, E: io::Write>(
     };
     match pick_list(alloc, &page, number.as_bytes())? {
         Ok(sheet) => {
-            out.write_all(&sheet)?;
+            print(out, &sheet)?;
             Ok(ExitStatus::Done)
         }
         Err(refusal) => tell_refusal(alloc, err, refusal),
@@ -140,6 +155,7 @@ fn order<K: Keeper, W: io::Write, E: io::Write>(
 }
 
 // Prints the list of what went out to a depositor. Refused is 20, an unknown depositor.
+#[tactic(auto, using(crate::proofs::TellingLaws::appends_nothing))]
 fn outbox<K: Keeper, W: io::Write, E: io::Write>(
     alloc: Global,
     book: &mut K,
@@ -150,10 +166,13 @@ fn outbox<K: Keeper, W: io::Write, E: io::Write>(
     ensures looked { IsLookAt (K.standing book.old) (K.standing book.new)
         (λ L. shown_list (outbox_of (K.standing book.old).warehouse L who))
         (W.contents out.old) (W.contents out.new) result }
+    ensures said { IsWhySaid (K.standing book.old) (K.standing book.new)
+        (λ L. refused_stranger (outbox_of (K.standing book.old).warehouse L who))
+        (E.contents err.old) (E.contents err.new) result }
 {
     match store::outbox(book, who)? {
         Some(rows) => {
-            out.write_all(&outbox_list(alloc, &rows)?)?;
+            print(out, &outbox_list(alloc, &rows)?)?;
             Ok(ExitStatus::Done)
         }
         None => tell_refusal(alloc, err, Refusal::UnknownDepositor),
@@ -168,6 +187,8 @@ fn tell_content<W: io::Write>(
     ensures shown { IfOk result
         (λ status. IsShown (shown_text (Some (option_map (λ t. t.items) text)))
         (W.contents out.old) (W.contents out.new) status) }
+    ensures front { OnErr result (AppendsFront (W.contents out.old) (W.contents out.new)
+        (shown_text (Some (option_map (λ t. t.items) text))).0) }
     ensures halted { IfErr result IsDeviceStop }
 {
     match text {
@@ -181,6 +202,7 @@ fn tell_content<W: io::Write>(
 
 // Prints the text of a number that went out to a depositor, and LF. Refused is 20, an unknown
 // depositor; where nothing went out under the number nothing is told, and the status says so.
+#[tactic(auto, using(crate::proofs::TellingLaws::appends_nothing))]
 fn content<K: Keeper, W: io::Write, E: io::Write>(
     alloc: Global,
     book: &mut K,
@@ -192,6 +214,9 @@ fn content<K: Keeper, W: io::Write, E: io::Write>(
     ensures looked { IsLookAt (K.standing book.old) (K.standing book.new)
         (λ L. shown_text (text_of (K.standing book.old).warehouse L who number))
         (W.contents out.old) (W.contents out.new) result }
+    ensures said { IsWhySaid (K.standing book.old) (K.standing book.new)
+        (λ L. refused_stranger (text_of (K.standing book.old).warehouse L who number))
+        (E.contents err.old) (E.contents err.new) result }
 {
     match store::text(book, who, number)? {
         Some(text) => tell_content(text, out),
@@ -200,6 +225,7 @@ fn content<K: Keeper, W: io::Write, E: io::Write>(
 }
 
 // Prints who is enrolled.
+#[tactic(auto, using(crate::proofs::TellingLaws::appends_nothing))]
 fn depositors<K: Keeper, W: io::Write>(
     alloc: Global,
     book: &mut K,
@@ -210,7 +236,7 @@ fn depositors<K: Keeper, W: io::Write>(
         (W.contents out.old) (W.contents out.new) result }
 {
     let whos = book.depositors()?;
-    out.write_all(&depositor_list(alloc, &whos)?)?;
+    print(out, &depositor_list(alloc, &whos)?)?;
     Ok(ExitStatus::Done)
 }
 
@@ -226,6 +252,8 @@ pub fn show<K: Keeper, W: io::Write, E: io::Write>(
 ) -> Result<ExitStatus, CommandError>
     ensures looked { IsLook (K.standing book.old) (K.standing book.new) asked.now
         (W.contents out.old) (W.contents out.new) result }
+    ensures said { IsLookSaid (K.standing book.old) (K.standing book.new) asked.now
+        (E.contents err.old) (E.contents err.new) result }
 {
     match *asked {
         Look::Stock(who, is_csv) => stock(alloc, book, who, is_csv, out, err),

@@ -8,16 +8,18 @@ ghost use Rattle.profile.specs.Means.{Line};
 ghost use Rattle.sheet_texts.specs.Texts.{sheet_of_text};
 ghost use Rattle.store.specs.Asked.{asked};
 ghost use Rattle.commands.specs.Clerks as meant;
-ghost use Rattle.commands.specs.Clerks.{IsNoSlip, IsSlipOf, command_of, depositor_of, sheet_read};
+ghost use Rattle.commands.specs.Clerks.{IsNoSlip, IsSheetRead, IsSlipOf, command_of, depositor_of, sheet_read};
+ghost use Rattle.commands.specs.Files.{reads_as};
+ghost use Rattle.commands.specs.Stops.{HasDeviceFault};
 
 use crate::causes::about_file;
 use crate::files::MOST_SHEET;
 use crate::told::CommandError;
 use command_line::ClerkWords;
+use folders::FileSystem;
 use intake::{act_of, depositor, read_first};
 use sheet_texts::sheet;
 use std::alloc::{AllocError, Global};
-use std::rt::Files;
 use store::{Command, Goods, Refusal, Sheet, SheetKind, Who};
 
 /// What a clerk did, with its sheet: its command can be given.
@@ -30,25 +32,35 @@ pub struct Slip<'a> {
     pub ghost given: { IsTrue (is_command Two (command_of who words sheet)) },
 }
 
-// A depositor that a clerk's words name, and the text of their sheet.
+// A depositor that a clerk's words name, and what was read of the file with their sheet.
 #[derive(Drop)]
 struct Read {
     who: Who,
     text: Vec<u8>,
 }
 
+// The depositor that a clerk's words name; None where one of the words can't be read.
+fn named(words: &ClerkWords<'_>) -> Option<Who>
+    ensures { result ≡ depositor_of words.now }
+{
+    let (ticket, number) = (words.ticket.as_bytes(), words.number.as_bytes());
+    depositor(words.kind, words.who.as_bytes(), ticket, number)
+}
+
 // Tests a clerk's words, and reads the file with their sheet, at most one byte more than a sheet
 // may have; None where a word can't be read (32). A file that can't be read is Device (44).
-fn read_slip<R: Files + AllocGlobal>(
+fn read_slip<R: FileSystem + AllocGlobal>(
     rt: &R,
     words: &ClerkWords<'_>,
 ) -> Result<Option<Read>, CommandError>
-    ensures read { IfOk result
+    ensures named { IfOk result
         (λ found. IfSome found (λ read. depositor_of words.now ≡ Some read.who)) }
+    ensures read { IfOk result
+        (λ found. IfSome found (λ read. IsSheetRead (R.reads rt.now) words.now read.text.items)) }
     ensures none { IfOk result (λ found. IfNone found (depositor_of words.now ≡ None)) }
+    ensures unread { IfErr result HasDeviceFault }
 {
-    let (ticket, number) = (words.ticket.as_bytes(), words.number.as_bytes());
-    let Some(who) = depositor(words.kind, words.who.as_bytes(), ticket, number) else {
+    let Some(who) = named(words) else {
         return Ok(None);
     };
     match read_first(rt, words.sheet, u64::from(MOST_SHEET) + 1) {
@@ -93,22 +105,23 @@ fn sheet_of(
     }
 }
 
-/// What a clerk's words and the file with its sheet come to. Refused are 32, a word that can't be
-/// read, and what keeps a sheet from being one (30 to 33; 33 or 32 where it has more than 1,048,576
-/// bytes); a file that can't be read is Device (44).
-pub fn slip_of<'a, R: Files + AllocGlobal>(
-    rt: &R,
+// What a clerk's words, which name this depositor, and the text of their sheet come to. Refused is
+// what keeps the text from being a sheet (30 to 33).
+fn slip_in<'a>(
+    alloc: Global,
     words: &ClerkWords<'a>,
-) -> Result<Result<Slip<'a>, Refusal>, CommandError>
+    who: Who,
+    text: Vec<u8>,
+) -> Result<Result<Slip<'a>, Refusal>, AllocError>
+    requires { depositor_of words.now ≡ Some who }
+
     ensures slip { IfOk result
-        (λ made. IfOk made (λ slip. IsSlipOf words.now slip.who slip.words slip.text.items
-        slip.sheet)) }
-    ensures none { IfOk result (λ made. IfErr made (IsNoSlip words.now)) }
+        (λ made. IfOk made (λ slip. IsSlipOf (reads_as text.items) words.now slip.who slip.words
+        slip.text.items slip.sheet)) }
+    ensures none { IfOk result
+        (λ made. IfErr made (λ refusal. sheet_read words.now.kind text.items ≡ Err refusal)) }
 {
-    let Some(Read { who, text }) = read_slip(rt, words)? else {
-        return Ok(Err(Refusal::BadText));
-    };
-    match sheet_of(rt.alloc(), words.kind, &text)? {
+    match sheet_of(alloc, words.kind, &text)? {
         Ok(sheet) => Ok(Ok(Slip {
             who,
             words: *words,
@@ -119,22 +132,61 @@ pub fn slip_of<'a, R: Files + AllocGlobal>(
     }
 }
 
+/// What a clerk's words and the file with its sheet come to. Refused are 32, a word that can't be
+/// read, and what keeps a sheet from being one (30 to 33; 33 or 32 where it has more than 1,048,576
+/// bytes); a file that can't be read is Device (44).
+pub fn slip_of<'a, R: FileSystem + AllocGlobal>(
+    rt: &R,
+    words: &ClerkWords<'a>,
+) -> Result<Result<Slip<'a>, Refusal>, CommandError>
+    ensures slip { IfOk result
+        (λ made. IfOk made (λ slip. IsSlipOf (R.reads rt.now) words.now slip.who slip.words
+        slip.text.items slip.sheet)) }
+    ensures none { IfOk result (λ made. IfErr made (IsNoSlip (R.reads rt.now) words.now)) }
+    ensures unread { IfErr result HasDeviceFault }
+{
+    match read_slip(rt, words)? {
+        Some(read) => Ok(slip_in(rt.alloc(), words, read.who, read.text)?),
+        None => Ok(Err(Refusal::BadText)),
+    }
+}
+
+// The text of a sheet of a kind, where it is one. Refused is what keeps it from being one (30 to
+// 33).
+fn tested(
+    alloc: Global,
+    kind: SheetKind,
+    text: Vec<u8>,
+) -> Result<Result<Vec<u8>, Refusal>, AllocError>
+    ensures same { IfOk result (λ made. IfOk made (λ given. given.items ≡ text.items)) }
+    ensures sheet { IfOk result
+        (λ made. IfOk made (λ given. (sheet : List Line) × (sheet_read kind given.items
+        ≡ Ok sheet))) }
+    ensures none { IfOk result
+        (λ made. IfErr made (λ refusal. sheet_read kind text.items ≡ Err refusal)) }
+{
+    match sheet_of(alloc, kind, &text)? {
+        Ok(_) => Ok(Ok(text)),
+        Err(refusal) => Ok(Err(refusal)),
+    }
+}
+
 /// The text of a clerk's sheet, tested as `slip_of` tests it, for a server that reads it again.
-pub fn sheet_text_of<R: Files + AllocGlobal>(
+pub fn sheet_text_of<R: FileSystem + AllocGlobal>(
     rt: &R,
     words: &ClerkWords<'_>,
 ) -> Result<Result<Vec<u8>, Refusal>, CommandError>
+    ensures from { IfOk result
+        (λ made. IfOk made (λ text. IsSheetRead (R.reads rt.now) words.now text.items)) }
     ensures text { IfOk result (λ made. IfOk made (λ text. (who : Partner) × (sheet : List Line)
         × (depositor_of words.now ≡ Some who)
         × (sheet_read words.now.kind text.items ≡ Ok sheet))) }
-    ensures none { IfOk result (λ made. IfErr made (IsNoSlip words.now)) }
+    ensures none { IfOk result (λ made. IfErr made (IsNoSlip (R.reads rt.now) words.now)) }
+    ensures unread { IfErr result HasDeviceFault }
 {
-    let Some(Read { text, .. }) = read_slip(rt, words)? else {
-        return Ok(Err(Refusal::BadText));
-    };
-    match sheet_of(rt.alloc(), words.kind, &text)? {
-        Ok(_) => Ok(Ok(text)),
-        Err(refusal) => Ok(Err(refusal)),
+    match read_slip(rt, words)? {
+        Some(Read { text, .. }) => Ok(tested(rt.alloc(), words.kind, text)?),
+        None => Ok(Err(Refusal::BadText)),
     }
 }
 

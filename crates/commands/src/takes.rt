@@ -1,17 +1,19 @@
-ghost use Rattle.std.specs.Prelude.{◌≡◌, ◌∷◌, [], if◌then◌else◌, map, flat_map, IfOk, IfErr, OnOk};
+ghost use Rattle.std.specs.Prelude.{◌≡◌, ◌∷◌, [], if◌then◌else◌, map, flat_map, IfOk, IfErr, OnErr, OnOk};
 ghost use Rattle.std.specs.Io.KnownBytes.{Appends};
 ghost use Rattle.std.specs.List.{list_any};
 ghost use Rattle.folders.specs.Folders.{became_of};
 ghost use Rattle.store.specs.Standing.{GoesOn};
+ghost use Rattle.commands.specs.Printing.{AppendsFront};
 ghost use Rattle.commands.specs.Stops.{IsDeviceStop};
 ghost use Rattle.commands.specs.Takes as meant;
 
 use crate::causes::about_stop;
+use crate::printing::print;
 use crate::told::{CommandError, ExitStatus};
 use crate::verbosity::Verbosity;
+use folders::FileSystem;
 use intake::{FileOutcome, PassedOver, Taken, WhyPassed, take_folder_telling};
 use std::io;
-use std::rt::Files;
 use store::{Keeper, Moment};
 
 // The status of a file that was taken.
@@ -24,17 +26,46 @@ fn status_of(outcome: FileOutcome) -> ExitStatus
     }
 }
 
-// Prints what became of files.
-fn tell_taken<W: io::Write>(out: &mut W, files: &[Taken]) -> Result<ExitStatus, CommandError>
+// More bytes than the line of a file has, whose name has at most 255 bytes: room for a line is made
+// before files are taken, so that telling what became of them wants no memory.
+const MOST_LINE: usize = 512;
+
+// Prints what became of a file.
+fn tell_file<W: io::Write>(
+    out: &mut W,
+    file: &Taken,
+    room: &mut Vec<u8>,
+) -> Result<(), CommandError>
+    ensures printed { OnOk result
+        (Appends (W.contents out.old) (W.contents out.new) (meant.line_in file.now)) }
+    ensures front { OnErr result
+        (AppendsFront (W.contents out.old) (W.contents out.new) (meant.line_in file.now)) }
+    ensures halted { IfErr result IsDeviceStop }
+{
+    room.clear();
+    file.write_line(room)?;
+    print(out, room)?;
+    Ok(())
+}
+
+// Prints what became of files. Each line is made in `room` first, of which little is wanted.
+fn tell_taken<W: io::Write>(
+    out: &mut W,
+    files: &[Taken],
+    room: &mut Vec<u8>,
+) -> Result<ExitStatus, CommandError>
     ensures status { IfOk result
         (λ status. status ≡ meant.status_of_files (map meant.became_in files.now)) }
     ensures printed { OnOk result
         (Appends (W.contents out.old) (W.contents out.new) (flat_map meant.line_in files.now)) }
+    ensures front { OnErr result
+        (AppendsFront (W.contents out.old) (W.contents out.new) (flat_map meant.line_in
+        files.now)) }
     ensures halted { IfErr result IsDeviceStop }
 {
     let mut status = ExitStatus::Done;
     for file in files {
-        file.write_line(out)?;
+        tell_file(out, file, room)?;
         status = status.and(status_of(file.outcome));
     }
     Ok(status)
@@ -93,7 +124,7 @@ fn tell_passed<E: io::Write>(err: &mut E, passed: &[PassedOver], is_all: bool) -
 /// be taken because of its name is told on standard error, and where it is asked for all that is
 /// passed over, and how far the taking is. The status is 1 where a file was refused, or passed over
 /// because its name is too long.
-pub fn take<R: Files + AllocGlobal + Clone + Drop, K: Keeper, W: io::Write, E: io::Write>(
+pub fn take<R: FileSystem + AllocGlobal + Clone + Drop, K: Keeper, W: io::Write, E: io::Write>(
     rt: &R,
     book: &mut K,
     dir: &str,
@@ -105,15 +136,16 @@ pub fn take<R: Files + AllocGlobal + Clone + Drop, K: Keeper, W: io::Write, E: i
     ensures taken { IfOk result (meant.IsFolderTaken (K.standing book.old) (K.standing book.new)
         moment (W.contents out.old) (W.contents out.new)) }
     ensures halted { IfErr result (meant.IsFolderHalted (K.standing book.old) (K.standing book.new)
-        moment) }
+        moment (W.contents out.old) (W.contents out.new)) }
     ensures goes { GoesOn (K.standing book.old) (K.standing book.new) }
 {
+    let mut room = Vec::with_capacity(rt.alloc(), MOST_LINE)?;
     let taken = take_folder_telling(rt, dir, book, moment, |done, all| {
         verbosity.tell_progress(err, done, all, "files");
     });
     match taken {
         Ok(folder) => {
-            let status = tell_taken(out, &folder.files)?;
+            let status = tell_taken(out, &folder.files, &mut room)?;
             // What can't be told is left out: what became of the files is told.
             let _ = tell_passed(err, &folder.passed, verbosity.explains);
             Ok(with_passed(status, &folder.passed))

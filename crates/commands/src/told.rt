@@ -1,9 +1,11 @@
-ghost use Rattle.std.specs.Prelude.{◌≡◌, IfErr, IfOk, OnOk};
+ghost use Rattle.std.specs.Prelude.{◌≡◌, IfErr, IfOk, OnErr, OnOk};
 ghost use Rattle.std.specs.Io.KnownBytes.{Appends};
+ghost use Rattle.commands.specs.Printing.{AppendsFront};
 ghost use Rattle.commands.specs.Statuses as meant;
 ghost use Rattle.commands.specs.Stops.{IsDeviceStop, IsUsageStop};
 ghost use Rattle.commands.specs.Telling.{faulted_line, line_of, refused_line, stop_text};
 
+use crate::printing::print;
 use command_line::LineFault;
 use std::alloc::{AllocError, Global};
 use std::io;
@@ -115,15 +117,17 @@ pub fn usage(alloc: Global, text: &str) -> CommandError
     }
 }
 
-/// Writes a text that goes out and LF, where there is one.
+/// Writes a text that goes out and LF, where there is one; at an error a beginning of them.
 pub fn tell_text<W: io::Write>(out: &mut W, text: &[u8]) -> Result<(), CommandError>
     ensures printed { OnOk result (Appends (W.contents out.old) (W.contents out.new)
         (line_of text.now)) }
+    ensures front { OnErr result
+        (AppendsFront (W.contents out.old) (W.contents out.new) (line_of text.now)) }
     ensures halted { IfErr result IsDeviceStop }
 {
     if !text.is_empty() {
-        out.write_all(text)?;
-        out.write_all(b"\n")?;
+        print(out, text)?;
+        print(out, b"\n")?;
     }
     Ok(())
 }

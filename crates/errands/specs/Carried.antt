@@ -44,22 +44,44 @@ IsHeardAs a h =
     ⊎ ((shown : Audience) × (heard_query shown a.status a.is_interchange a.body.items ≡ h))
 
 module _ {C : Type 0} (brings : Brings C) (loses : Loses C) (stop : CommandError) where
-  -- a request had no answer
-  abbrev pub IsLost : Type 0
-  IsLost =
-      (old new : C) × (verb : Verb) × (path body : List ℕ) × loses old verb path body new
-      × HasDeviceFault stop
+  -- What stopped a command that makes one request: no memory was left before it was made; or just
+  -- this one was made, and it had no answer, or one that is heard as what stops a command so.
+  abbrev pub IsHaltedAt : C → C → Verb → List ℕ → List ℕ → Type 0
+  IsHaltedAt old new verb path body =
+      ((new ≡ old) × (fault_in stop ≡ Some OutOfMemory))
+      ⊎ ((loses old verb path body new × HasDeviceFault stop)
+      ⊎ ((a : ServerAnswer) × (h : HeardAs) × brings old verb path body a new × IsHeardAs a h
+      × IsAnswerHalted h stop))
 
-  -- an answer was brought that is heard as what stops a command so
-  abbrev pub IsStoppedThere : Type 0
-  IsStoppedThere =
-      (old new : C) × (verb : Verb) × (path body : List ℕ) × (a : ServerAnswer) × (h : HeardAs)
-      × brings old verb path body a new × IsHeardAs a h × IsAnswerHalted h stop
+  -- the same of one that makes another request, which says why, where what it asks for isn't there
+  abbrev pub IsHaltedAfter : C → C → List ℕ → List ℕ → Type 0
+  IsHaltedAfter old new path other =
+      IsHaltedAt old new Get path []
+      ⊎ ((a : ServerAnswer) × (mid : C) × (a.status ≡ 404) × brings old Get path [] a mid
+      × IsHaltedAt mid new Get other [])
 
-  -- What stops a command at a server: want of memory before it is asked, a request without an
-  -- answer, or what an answer is heard as.
-  abbrev pub IsHaltedThere : Type 0
-  IsHaltedThere = (fault_in stop ≡ Some OutOfMemory) ⊎ (IsLost ⊎ IsStoppedThere)
+  abbrev pub IsShowHalted : C → C → Show → Type 0
+  IsShowHalted old new (show.Outbox who (Some n)) =
+      IsHaltedAfter old new (look_path (show.Outbox who (Some n)))
+      (path_text (codes "outbox" ∷ who.now ∷ []))
+  IsShowHalted old new (show.Stock who true) =
+      IsHaltedAfter old new (look_path (show.Stock who true))
+      (path_text (codes "stock" ∷ who.now ∷ []))
+  IsShowHalted old new s = IsHaltedAt old new Get (look_path s) []
+
+  -- what stopped a command, by what it asks of a server
+  abbrev pub IsCarryHalted : C → C → Errand → Type 0
+  IsCarryHalted old new (errand.Send bytes) = IsHaltedAt old new Post (codes "/x12") bytes.items
+  IsCarryHalted old new (errand.Deed words sheet) =
+      IsHaltedAt old new Post (deed_path words) sheet.items
+  IsCarryHalted old new (errand.Look s) = IsShowHalted old new s
+
+-- at most one request was made, a question, whatever came of it
+abbrev pub AsksAtMostOnce : {C : Type 0} → Brings C → Loses C → C → C → Type 0
+AsksAtMostOnce brings loses old new =
+    (new ≡ old)
+    ⊎ ((path : List ℕ) × (((a : ServerAnswer) × brings old Get path [] a new)
+    ⊎ loses old Get path [] new))
 
 module _ {C : Type 0} (brings : Brings C) (old new : C) (before after : Option (List ℕ))
     (status : ExitStatus) where

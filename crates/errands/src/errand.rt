@@ -4,9 +4,9 @@ ghost use Rattle.errands.specs.Errands.{IsErrandFor, IsNoErrandFor};
 
 use command_line::{BookAct, ClerkWords, Show, Task};
 use commands::{CommandError, about_file, ask, sheet_text_of, usage};
+use folders::FileSystem;
 use intake::read_interchange;
 use profile::MOST_BYTES;
-use std::rt::Files;
 use store::Refusal;
 
 /// What a server is asked for, its words tested and its files read, so that only the server can
@@ -25,12 +25,12 @@ pub enum Errand<'a> {
 /// interchange of more than 1,048,576 bytes, 32, a word that can't be read or a sheet that is too
 /// long, and what keeps a sheet from being one (30 to 33); a file that can't be read is Device
 /// (44). A usage fault is a line that no server takes.
-pub fn errand_of<'a, R: Files + AllocGlobal>(
+pub fn errand_of<'a, R: FileSystem + AllocGlobal>(
     rt: &R,
     task: &Task<'a>,
 ) -> Result<Result<Errand<'a>, Refusal>, CommandError>
-    ensures errand { IfOk result (λ made. IfOk made (IsErrandFor task.now)) }
-    ensures none { IfOk result (λ made. IfErr made (IsNoErrandFor task.now)) }
+    ensures errand { IfOk result (λ made. IfOk made (IsErrandFor (R.reads rt.now) task.now)) }
+    ensures none { IfOk result (λ made. IfErr made (IsNoErrandFor (R.reads rt.now) task.now)) }
 {
     match task {
         Task::Act {

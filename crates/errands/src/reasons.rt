@@ -2,6 +2,7 @@
 //! refusal alone, so it is asked for what its book has of the sheet's pairs.
 ghost use Rattle.std.specs.Prelude.{◌≡◌, IfErr, None};
 ghost use Rattle.commands.specs.Stops.{HasDeviceFault};
+ghost use Rattle.errands.specs.Carried.{AsksAtMostOnce};
 
 use crate::answers::{HeardAs, heard};
 use crate::courier::Courier;
@@ -137,7 +138,9 @@ pub fn tell_reason_there<C: Courier, E: io::Write>(
     errand: &Errand<'_>,
     err: &mut E,
 ) -> Result<(), CommandError>
-    ensures { IfErr result HasDeviceFault }
+    ensures asks { AsksAtMostOnce ⟦<Listening<C> as Courier>⟧.brings
+        ⟦<Listening<C> as Courier>⟧.loses courier.old courier.new }
+    ensures device { IfErr result HasDeviceFault }
 {
     let (Errand::Deed(words, sheet), Some(refusal)) = (errand, courier.refusal()) else {
         return Ok(());

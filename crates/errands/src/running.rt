@@ -1,9 +1,9 @@
 //! A running server asked, and its answer told.
-ghost use Rattle.std.specs.Prelude.{◌≡◌, [], IfOk, IfErr, None, Some};
+ghost use Rattle.std.specs.Prelude.{◌≡◌, [], ◌∷◌, codes, IfOk, IfErr, None, Some};
 ghost use Rattle.commands.specs.Stops.{HasDeviceFault, fault_in};
 ghost use Rattle.errands.specs.Heard.{stop_of, heard_query as query_of};
-ghost use Rattle.errands.specs.Carried.{IsCarried, IsTextShown, IsHaltedThere, IsExported, IsPosted, IsReported, IsShowDone};
-ghost use Rattle.errands.specs.Paths.{look_path as path_for};
+ghost use Rattle.errands.specs.Carried.{AsksAtMostOnce, IsCarried, IsTextShown, IsHaltedAt, IsHaltedAfter, IsShowHalted, IsCarryHalted, IsExported, IsPosted, IsReported, IsShowDone};
+ghost use Rattle.errands.specs.Paths.{look_path as path_for, path_text};
 
 use crate::answers::{HeardAs, heard, heard_query};
 use crate::courier::Courier;
@@ -70,7 +70,8 @@ fn post<C: Courier, W: io::Write, E: io::Write>(
 ) -> Result<ExitStatus, CommandError>
     ensures told { IfOk result (λ status. IsPosted C.brings courier.old courier.new
         (W.contents out.old) (W.contents out.new) status path.now body.now) }
-    ensures halted { IfErr result (IsHaltedThere C.brings C.loses) }
+    ensures halted { IfErr result (λ stop. IsHaltedAt C.brings C.loses stop courier.old courier.new
+        Verb.Post path.now body.now) }
 {
     let request = Request {
         verb: Verb::Post,
@@ -93,7 +94,9 @@ pub(crate) fn get_any<C: Courier>(
 ) -> Result<ServerAnswer, CommandError>
     ensures brought { IfOk result
         (λ answer. C.brings courier.old Verb.Get (path_for show.now) [] answer courier.new) }
-    ensures halted { IfErr result (IsHaltedThere C.brings C.loses) }
+    ensures halted { IfErr result (λ stop. IsHaltedAt C.brings C.loses stop courier.old courier.new
+        Verb.Get (path_for show.now) []) }
+    ensures asks { AsksAtMostOnce C.brings C.loses courier.old courier.new }
     ensures device { IfErr result HasDeviceFault }
 {
     let path = look_path(alloc, show)?;
@@ -115,7 +118,8 @@ fn get<C: Courier>(
 ) -> Result<ServerAnswer, CommandError>
     ensures brought { IfOk result
         (λ answer. C.brings courier.old Verb.Get (path_for show.now) [] answer courier.new) }
-    ensures halted { IfErr result (IsHaltedThere C.brings C.loses) }
+    ensures halted { IfErr result (λ stop. IsHaltedAt C.brings C.loses stop courier.old courier.new
+        Verb.Get (path_for show.now) []) }
     ensures heard { IfOk result (λ answer. stop_of (query_of shown answer.status
         answer.is_interchange answer.body.items) ≡ None) }
 {
@@ -135,7 +139,8 @@ fn get_text<C: Courier>(
 ) -> Result<ServerAnswer, CommandError>
     ensures brought { IfOk result
         (λ answer. C.brings courier.old Verb.Get (path_for show.now) [] answer courier.new) }
-    ensures halted { IfErr result (IsHaltedThere C.brings C.loses) }
+    ensures halted { IfErr result (λ stop. IsHaltedAt C.brings C.loses stop courier.old courier.new
+        Verb.Get (path_for show.now) []) }
 {
     let answer = get_any(alloc, courier, server, show)?;
     match heard(answer.status, answer.is_interchange, &answer.body) {
@@ -159,7 +164,8 @@ fn report<C: Courier, W: io::Write, E: io::Write>(
     ensures told { IfOk result
         (λ status. IsReported C.brings courier.old courier.new (W.contents out.old)
         (W.contents out.new) status shown show.now) }
-    ensures halted { IfErr result (IsHaltedThere C.brings C.loses) }
+    ensures halted { IfErr result (λ stop. IsHaltedAt C.brings C.loses stop courier.old courier.new
+        Verb.Get (path_for show.now) []) }
 {
     let answer = get(alloc, courier, server, shown, show)?;
     tell_report(alloc, shown, &answer, out, err)
@@ -179,7 +185,8 @@ fn export<C: Courier, W: io::Write, E: io::Write>(
     ensures told { IfOk result
         (λ status. IsExported C.brings courier.old courier.new (W.contents out.old)
         (W.contents out.new) status show.now who.now) }
-    ensures halted { IfErr result (IsHaltedThere C.brings C.loses) }
+    ensures halted { IfErr result (λ stop. IsHaltedAfter C.brings C.loses stop courier.old
+        courier.new (path_for show.now) (path_text (codes "stock" ∷ who.now ∷ []))) }
 {
     let partners = Audience::Partners;
     let answer = get(alloc, courier, server, partners, show)?;
@@ -208,7 +215,8 @@ fn content<C: Courier, W: io::Write, E: io::Write>(
 ) -> Result<ExitStatus, CommandError>
     ensures told { IfOk result (λ status. IsTextShown C.brings courier.old courier.new
         (W.contents out.old) (W.contents out.new) status show.now who.now) }
-    ensures halted { IfErr result (IsHaltedThere C.brings C.loses) }
+    ensures halted { IfErr result (λ stop. IsHaltedAfter C.brings C.loses stop courier.old
+        courier.new (path_for show.now) (path_text (codes "outbox" ∷ who.now ∷ []))) }
 {
     let answer = get_text(alloc, courier, server, show)?;
     if answer.status != 404 {
@@ -234,7 +242,8 @@ fn look<C: Courier, W: io::Write, E: io::Write>(
 ) -> Result<ExitStatus, CommandError>
     ensures told { IfOk result (λ status. IsShowDone C.brings courier.old courier.new
         (W.contents out.old) (W.contents out.new) status show.now) }
-    ensures halted { IfErr result (IsHaltedThere C.brings C.loses) }
+    ensures halted { IfErr result (λ stop. IsShowHalted C.brings C.loses stop courier.old
+        courier.new show.now) }
 {
     match show {
         Show::Outbox { who, number } => match number {
@@ -269,7 +278,8 @@ pub fn carry_out<C: Courier, W: io::Write, E: io::Write>(
     ensures carried { IfOk result
         (λ status. IsCarried C.brings courier.old courier.new (W.contents out.old)
         (W.contents out.new) status errand.now) }
-    ensures halted { IfErr result (IsHaltedThere C.brings C.loses) }
+    ensures halted { IfErr result (λ stop. IsCarryHalted C.brings C.loses stop courier.old
+        courier.new errand.now) }
 {
     match errand {
         Errand::Send(bytes) => post(alloc, courier, server, "/x12", bytes, out, err),

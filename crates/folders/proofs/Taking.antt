@@ -1,7 +1,7 @@
 -- Files that are taken one after the other.
 use Rattle.std.proofs.Common.{◌≡◌, ◌∙◌, sym, refl, ap, subst, ℕ, true, false, List, [], ◌∷◌, ◌++◌, String, Global, length, map, ◌⊎◌, inl, inr, Result, Ok, Err, IfErr, Some, slice_get}
 use Rattle.std.specs.Result.{IsErr, IsErrAnd}
-use Rattle.std.proofs.lemmas.List.{length-append, map-append, append-nil}
+use Rattle.std.proofs.lemmas.List.{append-nil}
 use Rattle.profile.specs.declared.rules.Rules.TheVariants.{Two}
 use Rattle.profile.specs.Header.{Who}
 use Rattle.profile.specs.Moments.{Moment}
@@ -13,7 +13,8 @@ use Rattle.store.specs.Fault.{Fault}
 use Rattle.store.specs.Fault.TheVariants.{OutOfMemory, Store, Reopen, NotThisBook, Device}
 use Rattle.store.proofs.Changes.{clean_before, leaves_first, refused_after, unchanged_refl, usable_stays}
 use Rattle.store.proofs.Replies.{accepted_on-more, replies_on-more}
-use Rattle.folders.specs.Folders.{Became, became, handed, IsDeviceFault, AreTextsTaken, IsFolderFault, IsFolderStopped, IsUntaken, became_of}
+use Rattle.folders.specs.Folders.{Became, became, handed, IsDeviceFault, AreTextsTaken, IsFolderFault, IsFolderStopped}
+use Rattle.folders.specs.Handed.{IsUntaken}
 use Rattle.folders.specs.Stops.{IsFolderUnread, IsFolderStop}
 use Rattle.folders.specs.declared.folder.FolderStop.{FolderStop}
 use Rattle.folders.specs.declared.folder.Taken.{Taken}
@@ -39,6 +40,10 @@ told_more W L t texts text =
     ∙ ap (map became) (replies_on-more Two W L (handed t texts) (Interchange text, t))
     ∙ became_more (replies_on Two W L (handed t texts)) (reply_to Two W (accepted_on Two W L (handed t texts)) (Interchange text) t)
 
+pub replies_more : (W : Who) (L : List Entry) (t : Moment) (texts : List (List ℕ)) (text : List ℕ)
+    → replies_on Two W L (handed t (texts ++ text ∷ [])) ≡ replies_on Two W L (handed t texts) ++ reply_to Two W (accepted_on Two W L (handed t texts)) (Interchange text) t ∷ []
+replies_more W L t texts text = ap (replies_on Two W L) (handed_more t texts text) ∙ replies_on-more Two W L (handed t texts) (Interchange text, t)
+
 -- Nothing was taken yet.
 
 pub none_taken : (a : Standing) (t : Moment) → AreTextsTaken a a t [] []
@@ -47,7 +52,7 @@ none_taken a t = record { told_is = λ clean L u. refl; usable = λ clean L u. u
 -- One file more.
 
 -- the register after the one text of a file, after those that were taken
-last_later : (a b : Standing) (t : Moment) (texts : List (List ℕ)) (last : List ℕ) (L : List Entry) → GoesOn a b
+pub last_later : (a b : Standing) (t : Moment) (texts : List (List ℕ)) (last : List ℕ) (L : List Entry) → GoesOn a b
     → after Two b.warehouse (accepted_on Two a.warehouse L (handed t texts)) (Interchange last, t) ≡ accepted_on Two a.warehouse L (handed t (texts ++ last ∷ []))
 last_later a b t texts last L p =
     ap (λ W. after Two W (accepted_on Two a.warehouse L (handed t texts)) (Interchange last, t)) p.warehouse ∙ sym (later_more a.warehouse L t texts last)
@@ -83,26 +88,9 @@ fault_of_later a b c fault t texts told p same q before why = record {
       why.not_this h clean _ mid.keeps mid.legal;
 }
 
-either_usable : (s : Standing) (M first second last : List Entry) → M ≡ first → last ≡ second → IsUsable s M ⊎ IsUsable s last → IsUsable s first ⊎ IsUsable s second
+pub either_usable : (s : Standing) (M first second last : List Entry) → M ≡ first → last ≡ second → IsUsable s M ⊎ IsUsable s last → IsUsable s first ⊎ IsUsable s second
 either_usable s M first second last p q (inl u) = inl (subst (IsUsable s) p u)
 either_usable s M first second last p q (inr u) = inr (subst (IsUsable s) q u)
-
--- a file at which the folder stops, after those that were taken
-pub stopped_later : (a b c : Standing) (fault : Fault) (t : Moment) (texts : List (List ℕ)) (told : List Became) → GoesOn a b → a.shut ≡ b.shut → GoesOn b c
-    → AreTextsTaken a b t texts told → IsUntaken fault b c t → IsFolderStopped fault a c t
-stopped_later a b c fault t texts told p same q before file = record {
-  texts = texts;
-  last = file.last;
-  taken = record {
-    usable = λ clean L u opened.
-        let mid = before.usable (clean_before b c q clean) L u in
-        either_usable c _ _ _ _ refl (last_later a b t texts file.last L p) (file.taken.usable clean _ mid opened);
-    left = λ clean L u.
-        let mid = before.usable (clean_before b c q clean) L u in
-        subst (LeavesEither c (accepted_on Two a.warehouse L (handed t texts))) (last_later a b t texts file.last L p) (file.taken.left clean _ mid);
-  };
-  why = fault_of_later a b c fault t texts told p same q before file.why;
-}
 
 -- a fault of a device, or want of memory, after which the book is as it was
 pub device_fault : (fault : Fault) (a : Standing) (b : Standing) → b.shut ≡ a.shut → IsDeviceFault fault → IsFolderFault fault a b
@@ -132,15 +120,6 @@ stopped_between a b fault t texts told p same before why = record {
   why = device_fault fault a b (sym same) why;
 }
 
--- so many were taken before the file at which the folder stops
-pub counted_later : (stop : FolderStop) (a b c : Standing) (t : Moment) (texts : List (List ℕ)) (told : List Became) → GoesOn a b → a.shut ≡ b.shut → GoesOn b c
-    → AreTextsTaken a b t texts told → IsUntaken stop.fault b c t → stop.taken ≡ length texts → IsFolderStop stop a c t
-unfolding stopped_later
-counted_later stop a b c t texts told p same q before file counted = record {
-  stopped = stopped_later a b c stop.fault t texts told p same q before file;
-  counted = counted;
-}
-
 -- none was taken of a folder that can't be read
 pub none_counted : (stop : FolderStop) (a : Standing) (t : Moment) → IsFolderUnread stop → IsFolderStop stop a a t
 unfolding stopped_between
@@ -163,34 +142,37 @@ file_taken a b t text reply told is said goes keeps = record {
 }
 
 -- a file that can't be read
-pub unread : (a : Standing) (fault : Fault) (t : Moment) → IsDeviceFault fault → IsUntaken fault a a t
-unread a fault t why = record {
+pub unread : (has : List ℕ → Type 0) (a : Standing) (fault : Fault) (t : Moment) → IsDeviceFault fault → IsUntaken has fault a a t
+unread has a fault t why = record {
   last = [];
   taken = record { usable = λ clean L u opened. inl u; left = λ clean L u. leaves_first a L _ u };
+  text = inr (λ clean L u. u);
   why = device_fault fault a a refl why;
 }
 
 -- a fault of the book when a file is handed in
-pub unsubmitted : (a b : Standing) (fault : Fault) (t : Moment) (text : List ℕ) → IsFault fault a b
-    → OfUsable a b (λ L. LeavesEither b L (after Two a.warehouse L (Interchange text, t))) → IsUntaken fault a b t
-unsubmitted a b fault t text f left = record {
+pub unsubmitted : (has : List ℕ → Type 0) (a b : Standing) (fault : Fault) (t : Moment) (text : List ℕ) → has text → IsFault fault a b
+    → OfUsable a b (λ L. LeavesEither b L (after Two a.warehouse L (Interchange text, t))) → IsUntaken has fault a b t
+unsubmitted has a b fault t text read f left = record {
   last = text;
   taken = record {
     usable = λ clean L u opened. inl (usable_stays a b (f.clean (opened ∙ sym u.opened)) clean L u);
     left = left;
   };
+  text = inl read;
   why = record { grew = f.broken; store = f.why.store; reopen = f.why.reopen; not_this = λ h clean L k legal. f.why.not_this h clean L k };
 }
 
 -- an answer that can't be written
-pub unanswered : (a b : Standing) (fault : Fault) (t : Moment) (text : List ℕ) → OfUsable a b (λ L. IsUsable b (after Two a.warehouse L (Interchange text, t)))
-    → a.shut ≡ b.shut → IsDeviceFault fault → IsUntaken fault a b t
-unanswered a b fault t text goes same why = record {
+pub unanswered : (has : List ℕ → Type 0) (a b : Standing) (fault : Fault) (t : Moment) (text : List ℕ) → has text
+    → OfUsable a b (λ L. IsUsable b (after Two a.warehouse L (Interchange text, t))) → a.shut ≡ b.shut → IsDeviceFault fault → IsUntaken has fault a b t
+unanswered has a b fault t text read goes same why = record {
   last = text;
   taken = record {
     usable = λ clean L u opened. inr (goes clean L u);
     left = λ clean L u. let v = goes clean L u in record { stand = v.stand; each = λ M h. inr (v.only M h) };
   };
+  text = inl read;
   why = device_fault fault a b (sym same) why;
 }
 
@@ -198,18 +180,6 @@ unanswered a b fault t text goes same why = record {
 pub handed_on : {T E : Type 0} (r : Result T E) (P Q : E → Type 0) → IsErr r × IsErrAnd r Q → ((fault : E) → Q fault → P fault) → IfErr r P
 handed_on (Ok x) P Q h k = tt
 handed_on (Err e) P Q h k = k e h.1
-
--- what is told of one file more
-pub taken_kept : (xs ys zs : List Taken) (file : Taken) → ys ≡ xs → zs ≡ ys ++ file ∷ []
-    → map (λ (k : Taken). became_of k.outcome) xs ++ became_of file.outcome ∷ [] ≡ map (λ (k : Taken). became_of k.outcome) zs
-taken_kept xs ys zs file kept grown =
-    sym (ap (map (λ (k : Taken). became_of k.outcome)) (grown ∙ ap (λ (ts : List Taken). ts ++ file ∷ []) kept) ∙ map-append (λ (k : Taken). became_of k.outcome) xs (file ∷ []))
-
--- so many files as texts, and one more
-pub one_more : (xs ys zs : List Taken) (file : Taken) (texts : List (List ℕ)) (text : List ℕ) → ys ≡ xs → zs ≡ ys ++ file ∷ [] → length xs ≡ length texts
-    → length zs ≡ length (texts ++ text ∷ [])
-one_more xs ys zs file texts text kept grown counted =
-    ap length (grown ∙ ap (λ (ts : List Taken). ts ++ file ∷ []) kept) ∙ simp length-append (rw counted refl)
 
 -- one name goes over from those that are to come to those that were taken
 names_on : (files : List Taken) (file : Taken) (more : List (String Global)) → map (λ f. f.name) (files ++ file ∷ []) ++ more ≡ map (λ f. f.name) files ++ file.name ∷ more

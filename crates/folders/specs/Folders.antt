@@ -43,6 +43,15 @@ fault_of_kind kind = Device
 abbrev pub IsDeviceFault : Fault → Type 0
 IsDeviceFault fault = (fault ≡ OutOfMemory) ⊎ (fault ≡ Device)
 
+-- a call about this path failed with this kind of error, or memory was wanting
+abbrev pub IsErrorAt : (List ℕ → ErrorKind → Type 0) → List ℕ → ErrorKind → Type 0
+IsErrorAt fails path kind = fails path kind ⊎ (kind ≡ kinds.OutOfMemory)
+
+-- a fault of a device is that of a call which failed, about a file or a folder
+abbrev pub HasCause : (List ℕ → ErrorKind → Type 0) → Fault → Type 0
+HasCause fails fault = fault ≡ Device
+    → (path : List ℕ) × (kind : ErrorKind) × fails path kind × (fault_of_kind kind ≡ Device)
+
 -- The texts were handed in one after the other: this became of them, and the register is the one
 -- after them.
 pub record AreTextsTaken
@@ -53,11 +62,6 @@ pub record AreTextsTaken
       (λ L. IsUsable new (accepted_on Two old.warehouse L (handed t texts)))
   pub keeps : OfKept old new (λ L. KeepsLegal new
       (accepted_on Two old.warehouse L (handed t texts)))
-
--- a text was handed in, and this became of it
-abbrev pub IsFileTaken : Standing → Standing → Moment → FileOutcome → Type 0
-IsFileTaken old new t outcome = (text : List ℕ)
-    × AreTextsTaken old new t (text ∷ []) (became_of outcome ∷ [])
 
 -- The texts were handed in, and one more perhaps. The register is the one after those, or after
 -- that one too; a crash leaves one of the two, also where the book has to be opened again.
@@ -76,12 +80,6 @@ pub record IsFolderFault (fault : Fault) (old new : Standing) : Type 0 where
   pub store : fault ≡ Store → Refused old new
   pub reopen : fault ≡ Reopen → old.shut ≡ true
   pub not_this : fault ≡ NotThisBook → OfKept old new (λ L. ⊥)
-
--- A file that wasn't taken.
-pub record IsUntaken (fault : Fault) (old new : Standing) (t : Moment) : Type 0 where
-  pub last : List ℕ
-  pub taken : AreTakenUntil old new t [] last
-  pub why : IsFolderFault fault old new
 
 -- A folder that wasn't taken to its end.
 pub record IsFolderStopped (fault : Fault) (old new : Standing) (t : Moment) : Type 0 where

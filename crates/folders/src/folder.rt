@@ -1,17 +1,21 @@
-ghost use Rattle.std.specs.Prelude.{◌≡◌, ◌<◌, ◌++◌, ℕ, List, false, map, IfOk, IfErr, IfNone, OnOk, IsSorted, codes, string_bytes, vec_len, vec_capacity};
+ghost use Rattle.std.specs.Prelude.{◌≡◌, ◌≢◌, ◌<◌, [], ℕ, List, map, IfOk, IfErr, IfNone, IsSome, OnOk, IsSorted, string_bytes, vec_len, vec_capacity};
 ghost use Rattle.std.specs.IoError.{error_kind};
-ghost use Rattle.folders.specs.Folders.{became, became_of, fault_of_kind, IsDeviceFault, AreTextsTaken, IsFileTaken, IsUntaken, IsFolderStopped};
-ghost use Rattle.folders.specs.Stops.{IsFolderUnread, IsFolderStop, IsNext};
+ghost use Rattle.folders.specs.Folders.{became, became_of, fault_of_kind, HasCause, IsDeviceFault, AreTextsTaken, IsFolderStopped};
+ghost use Rattle.folders.specs.Handed.{text_of, AreFilesHanded, IsFileHanded, IsHanded, IsStoppedIn, IsStoppedWithin, IsText, IsUntaken};
+ghost use Rattle.folders.specs.Listing.{IsListed};
+ghost use Rattle.folders.specs.Paths.{answer_path, file_path};
+ghost use Rattle.folders.specs.Stops.{IsFolderUnread, IsFolderStop};
+ghost use Rattle.folders.specs.declared.passing.PassedOver.{PassedOver};
 ghost use Rattle.store.specs.Runs.{told};
 ghost use Rattle.store.specs.Standing.{GoesOn, IsUnchanged};
 
 use crate::answers::write_answer;
+use crate::file_system::FileSystem;
 use crate::files::read_interchange;
 use crate::names::{Listing, listed};
 use crate::passing::PassedOver;
 use std::alloc::AllocError;
 use std::io;
-use std::rt::Files;
 use store::{Command, Fault, Keeper, Moment, Refusal, Reply, submit};
 
 /// What became of the interchange in a file.
@@ -67,8 +71,10 @@ fn fault_of(error: &io::Error) -> Fault
 }
 
 // The bytes of the interchange in a file.
-fn bytes_of<R: Files + AllocGlobal>(rt: &R, path: &str) -> Result<Vec<u8>, Fault>
-    ensures { IfErr result IsDeviceFault }
+fn bytes_of<R: FileSystem>(rt: &R, path: &str) -> Result<Vec<u8>, Fault>
+    ensures read { IfOk result (λ bytes. IsText (R.reads rt.now) path.now bytes.items) }
+    ensures named { IfErr result IsDeviceFault }
+    ensures cause { IfErr result (HasCause (R.fails rt.now)) }
 {
     match read_interchange(rt, path) {
         Ok(bytes) => Ok(bytes),
@@ -77,8 +83,11 @@ fn bytes_of<R: Files + AllocGlobal>(rt: &R, path: &str) -> Result<Vec<u8>, Fault
 }
 
 // Writes an answer beside its file, if there is one.
-fn leave_answer<R: Files + AllocGlobal>(rt: &R, path: &str, answer: &[u8]) -> Result<(), Fault>
-    ensures { IfErr result IsDeviceFault }
+fn leave_answer<R: FileSystem + AllocGlobal>(rt: &R, path: &str, answer: &[u8]) -> Result<(), Fault>
+    ensures written { OnOk result
+        (answer.now ≢ [] → R.writes rt.now (answer_path path.now) answer.now) }
+    ensures named { IfErr result IsDeviceFault }
+    ensures cause { IfErr result (HasCause (R.fails rt.now)) }
 {
     if answer.is_empty() {
         return Ok(());
@@ -91,7 +100,8 @@ fn leave_answer<R: Files + AllocGlobal>(rt: &R, path: &str, answer: &[u8]) -> Re
 
 // What became of an interchange with this reply, and its answer.
 fn outcome_of(reply: Reply) -> (FileOutcome, Vec<u8>)
-    ensures { became_of result.0 ≡ became (told reply) }
+    ensures told { became_of result.0 ≡ became (told reply) }
+    ensures text { result.1.items ≡ text_of (told reply) }
 {
     match reply {
         Reply::Accepted(text) => (FileOutcome::Accepted, text),
@@ -101,12 +111,11 @@ fn outcome_of(reply: Reply) -> (FileOutcome, Vec<u8>)
 }
 
 // What is in a folder.
-fn listing_of<R: Files + AllocGlobal + Clone + Drop>(
-    rt: &R,
-    dir: &str,
-) -> Result<Listing, FolderStop>
-    ensures sorted { IfOk result (λ listing. IsSorted ⟦<String as Ord>⟧.cmp listing.names.items) }
+fn listing_of<R: FileSystem + AllocGlobal>(rt: &R, dir: &str) -> Result<Listing, FolderStop>
+    ensures all { IfOk result
+        (λ listing. IsListed (R.lists rt.now dir.now) listing.names.items listing.passed.items) }
     ensures unread { IfErr result IsFolderUnread }
+    ensures cause { IfErr result (λ stop. HasCause (R.fails rt.now) stop.fault) }
 {
     match listed(rt, dir) {
         Ok(listing) => Ok(listing),
@@ -120,14 +129,14 @@ fn listing_of<R: Files + AllocGlobal + Clone + Drop>(
 
 // The path of a file in a folder.
 fn path_in<'a, R: AllocGlobal>(rt: &R, dir: &'a str, name: &'a str) -> Result<String, AllocError>
-    ensures { IfOk result (λ path. string_bytes path ≡ dir.now ++ codes "/" ++ name.now) }
+    ensures { IfOk result (λ path. string_bytes path ≡ file_path dir.now name.now) }
 {
     [dir, "/", name].concat(rt.alloc())
 }
 
 // Takes the file of this name once there is room to tell what became of it, so that nothing can
 // fail after it is taken.
-fn take_file<R: Files + AllocGlobal, K: Keeper>(
+fn take_file<R: FileSystem + AllocGlobal, K: Keeper>(
     rt: &R,
     dir: &str,
     name: &str,
@@ -136,9 +145,12 @@ fn take_file<R: Files + AllocGlobal, K: Keeper>(
     moment: Moment,
 ) -> Result<FileOutcome, Fault>
     ensures taken { IfOk result
-        (IsFileTaken (K.standing keeper.old) (K.standing keeper.new) moment) }
+        (λ outcome. IsFileHanded (IsHanded (R.reads rt.now) (R.writes rt.now) dir.now)
+        (K.standing keeper.old) (K.standing keeper.new) moment name.now (became_of outcome)) }
     ensures stopped { IfErr result
-        (λ fault. IsUntaken fault (K.standing keeper.old) (K.standing keeper.new) moment) }
+        (λ fault. IsUntaken (IsText (R.reads rt.now) (file_path dir.now name.now)) fault
+        (K.standing keeper.old) (K.standing keeper.new) moment) }
+    ensures cause { IfErr result (HasCause (R.fails rt.now)) }
     ensures opened { OnOk result ((K.standing keeper.old).shut ≡ (K.standing keeper.new).shut) }
     ensures goes { GoesOn (K.standing keeper.old) (K.standing keeper.new) }
     ensures kept { files.new.items ≡ files.old.items }
@@ -155,7 +167,7 @@ fn take_file<R: Files + AllocGlobal, K: Keeper>(
 
 // Takes the files of these names, one after the other, each once. After each of them `told` is
 // handed how many were taken of how many. A fault stops at the file after those that were taken.
-fn take_names<R: Files + AllocGlobal, K: Keeper, T: FnMut(u64, u64)>(
+fn take_names<R: FileSystem + AllocGlobal, K: Keeper, T: FnMut(u64, u64)>(
     rt: &R,
     dir: &str,
     names: Vec<String>,
@@ -166,13 +178,16 @@ fn take_names<R: Files + AllocGlobal, K: Keeper, T: FnMut(u64, u64)>(
     requires told { T.IsAlwaysCallable told }
 
     ensures each { IfOk result (λ files. map (λ file. file.name) files.items ≡ names.items) }
-    ensures next { IfErr result (λ stop. IsNext stop names.items) }
     ensures taken { IfOk result
-        (λ files. (texts : List (List ℕ))
-        × AreTextsTaken (K.standing keeper.old) (K.standing keeper.new) moment texts (map
-        (λ file. became_of file.outcome) files.items)) }
+        (λ files. AreFilesHanded (IsHanded (R.reads rt.now) (R.writes rt.now) dir.now)
+        (K.standing keeper.old) (K.standing keeper.new) moment
+        (map (λ file. string_bytes file.name) files.items)
+        (map (λ file. became_of file.outcome) files.items)) }
     ensures stopped { IfErr result
-        (λ stop. IsFolderStop stop (K.standing keeper.old) (K.standing keeper.new) moment) }
+        (λ stop. IsStoppedWithin (IsHanded (R.reads rt.now) (R.writes rt.now) dir.now)
+        (λ name. IsText (R.reads rt.now) (file_path dir.now name)) stop
+        (K.standing keeper.old) (K.standing keeper.new) moment names.items) }
+    ensures cause { IfErr result (λ stop. HasCause (R.fails rt.now) stop.fault) }
     ensures opened { OnOk result ((K.standing keeper.old).shut ≡ (K.standing keeper.new).shut) }
     ensures goes { GoesOn (K.standing keeper.old) (K.standing keeper.new) }
 {
@@ -207,7 +222,7 @@ fn take_names<R: Files + AllocGlobal, K: Keeper, T: FnMut(u64, u64)>(
 /// Faults are those of `submit`, want of memory, and Device (44) where the folder can't be read, a
 /// file can't be read or an answer can't be written. After a fault the files before it are taken;
 /// what became of each isn't told.
-pub fn take_folder_telling<R: Files + AllocGlobal + Clone + Drop, K: Keeper, T: FnMut(u64, u64)>(
+pub fn take_folder_telling<R: FileSystem + AllocGlobal, K: Keeper, T: FnMut(u64, u64)>(
     rt: &R,
     dir: &str,
     keeper: &mut K,
@@ -216,6 +231,20 @@ pub fn take_folder_telling<R: Files + AllocGlobal + Clone + Drop, K: Keeper, T: 
 ) -> Result<TakenFolder, FolderStop>
     requires told { T.IsAlwaysCallable told }
 
+    ensures all { IfOk result
+        (λ folder. IsListed (R.lists rt.now dir.now)
+        (map (λ file. file.name) folder.files.items) folder.passed.items) }
+    ensures handed { IfOk result
+        (λ folder. AreFilesHanded (IsHanded (R.reads rt.now) (R.writes rt.now) dir.now)
+        (K.standing keeper.old) (K.standing keeper.new) moment
+        (map (λ file. string_bytes file.name) folder.files.items)
+        (map (λ file. became_of file.outcome) folder.files.items)) }
+    ensures halted { IfErr result
+        (λ stop. IsSome stop.at → IsStoppedIn (R.lists rt.now dir.now)
+        (IsHanded (R.reads rt.now) (R.writes rt.now) dir.now)
+        (λ name. IsText (R.reads rt.now) (file_path dir.now name)) stop
+        (K.standing keeper.old) (K.standing keeper.new) moment) }
+    ensures cause { IfErr result (λ stop. HasCause (R.fails rt.now) stop.fault) }
     ensures taken { IfOk result
         (λ folder. (texts : List (List ℕ))
         × AreTextsTaken (K.standing keeper.old) (K.standing keeper.new) moment texts (map
@@ -238,12 +267,21 @@ pub fn take_folder_telling<R: Files + AllocGlobal + Clone + Drop, K: Keeper, T: 
 
 /// The same, where nobody is told more than what became of the files: not what was passed over, nor
 /// where it stopped.
-pub fn take_folder<R: Files + AllocGlobal + Clone + Drop, K: Keeper>(
+pub fn take_folder<R: FileSystem + AllocGlobal, K: Keeper>(
     rt: &R,
     dir: &str,
     keeper: &mut K,
     moment: Moment,
 ) -> Result<Vec<Taken>, Fault>
+    ensures all { IfOk result
+        (λ files. (passed : List PassedOver) × IsListed (R.lists rt.now dir.now)
+        (map (λ file. file.name) files.items) passed) }
+    ensures handed { IfOk result
+        (λ files. AreFilesHanded (IsHanded (R.reads rt.now) (R.writes rt.now) dir.now)
+        (K.standing keeper.old) (K.standing keeper.new) moment
+        (map (λ file. string_bytes file.name) files.items)
+        (map (λ file. became_of file.outcome) files.items)) }
+    ensures cause { IfErr result (HasCause (R.fails rt.now)) }
     ensures taken { IfOk result
         (λ files. (texts : List (List ℕ))
         × AreTextsTaken (K.standing keeper.old) (K.standing keeper.new) moment texts (map

@@ -2,12 +2,15 @@
 #![tactic(auto)]
 
 mod answers;
+mod file_system;
 mod files;
 mod folder;
 mod lines;
 mod names;
 mod passing;
+mod system;
 
+pub use file_system::{FileSystem, FolderEntry};
 pub use files::{read_first, read_interchange};
 pub use folder::{FileOutcome, FolderStop, Taken, TakenFolder, take_folder, take_folder_telling};
 pub use passing::{PassedOver, WhyPassed};

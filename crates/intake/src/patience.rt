@@ -1,4 +1,7 @@
 //! Connections that are not waited for without end.
+ghost use Rattle.std.specs.Prelude.{◌≡◌, IfOk, IfSome, Some};
+ghost use Rattle.std.specs.Io.{ReadsAtMost, WritesAtMost};
+ghost use Rattle.std.specs.Io.KnownBytes.{Keeps, ReadConsumes, WriteAppends};
 
 use std::io::{self, Read, Write};
 use std::net::TcpStream;
@@ -29,19 +32,41 @@ impl Clock for StoppedClock {
     }
 }
 
+/// What waits for a peer no longer than it is told, in each call that reads or writes.
+pub(crate) trait Timed {
+    /// How long each call that reads may wait from now on.
+    fn limit_reads(&self, longest: Duration) -> io::Result<()>;
+
+    /// How long each call that writes may wait from now on.
+    fn limit_writes(&self, longest: Duration) -> io::Result<()>;
+}
+
+impl Timed for &TcpStream {
+    fn limit_reads(&self, longest: Duration) -> io::Result<()> {
+        self.set_read_timeout(Some(longest))
+    }
+
+    fn limit_writes(&self, longest: Duration) -> io::Result<()> {
+        self.set_write_timeout(Some(longest))
+    }
+}
+
 /// A connection whose calls have a deadline together, which begins with the first of them. Each
 /// waits for what is left of it; after it, and where the timer can't be read, a call is an error.
+/// What it says was read or written is what the connection itself gave or took.
 #[derive(Drop)]
-pub(crate) struct Patient<'a, Q> {
-    stream: &'a TcpStream,
+pub(crate) struct Patient<'a, T, Q> {
+    stream: T,
     timer: &'a Q,
     limit: Duration,
     begun: Option<Instant>,
 }
 
-impl<'a, Q: Clock> Patient<'a, Q> {
+impl<'a, T, Q: Clock> Patient<'a, T, Q> {
     /// A connection that no call was made of, with so long for all of them.
-    pub(crate) fn new(stream: &'a TcpStream, timer: &'a Q, limit: Duration) -> Patient<'a, Q> {
+    pub(crate) fn new(stream: T, timer: &'a Q, limit: Duration) -> Patient<'a, T, Q>
+        ensures { result.stream ≡ stream }
+    {
         Patient {
             stream,
             timer,
@@ -51,8 +76,11 @@ impl<'a, Q: Clock> Patient<'a, Q> {
     }
 
     // How long the next call may wait. No time is left after the deadline, which a socket refuses
-    // to be given.
-    fn left(&mut self) -> io::Result<Duration> {
+    // to be given. What was begun doesn't begin anew.
+    fn left(&mut self) -> io::Result<Duration>
+        ensures begun { IfSome self.old.begun (λ begun. self.new.begun ≡ Some begun) }
+        ensures stream { self.new.stream ≡ self.old.stream }
+    {
         let now = Instant::now(self.timer)?;
         let begun = match self.begun {
             Some(begun) => begun,
@@ -63,25 +91,38 @@ impl<'a, Q: Clock> Patient<'a, Q> {
     }
 }
 
-impl<Q: Clock> Read for Patient<'_, Q> {
-    fn read(&mut self, buf: &mut [u8]) -> io::Result<usize> {
+impl<T: Read + Timed, Q: Clock> Read for Patient<'_, T, Q> {
+    ghost remaining = { λ patient. T.remaining patient.stream };
+
+    fn read(&mut self, buf: &mut [u8]) -> io::Result<usize>
+        ensures bound { ReadsAtMost result buf.new }
+        ensures bytes { ReadConsumes (T.remaining self.old.stream) (T.remaining self.new.stream)
+            result buf.new }
+        ensures begun { IfSome self.old.begun (λ begun. self.new.begun ≡ Some begun) }
+    {
         let left = self.left()?;
-        let mut stream = self.stream;
-        stream.set_read_timeout(Some(left))?;
-        stream.read(buf)
+        self.stream.limit_reads(left)?;
+        self.stream.read(buf)
     }
 }
 
-impl<Q: Clock> Write for Patient<'_, Q> {
-    fn write(&mut self, buf: &[u8]) -> io::Result<usize> {
+impl<T: Write + Timed, Q: Clock> Write for Patient<'_, T, Q> {
+    ghost contents = { λ patient. T.contents patient.stream };
+
+    fn write(&mut self, buf: &[u8]) -> io::Result<usize>
+        ensures bound { WritesAtMost result buf.now }
+        ensures bytes { WriteAppends (T.contents self.old.stream) (T.contents self.new.stream)
+            result buf.now }
+        ensures begun { IfSome self.old.begun (λ begun. self.new.begun ≡ Some begun) }
+    {
         let left = self.left()?;
-        let mut stream = self.stream;
-        stream.set_write_timeout(Some(left))?;
-        stream.write(buf)
+        self.stream.limit_writes(left)?;
+        self.stream.write(buf)
     }
 
-    fn flush(&mut self) -> io::Result<()> {
-        let mut stream = self.stream;
-        stream.flush()
+    fn flush(&mut self) -> io::Result<()>
+        ensures bytes { Keeps (T.contents self.old.stream) (T.contents self.new.stream) }
+    {
+        self.stream.flush()
     }
 }

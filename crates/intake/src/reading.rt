@@ -127,6 +127,7 @@ fn fill_after<R: Read>(reader: &mut Gauge<R>, buf: &mut [u8], start: &[u8]) -> R
         (λ is_full. (input : List ℕ) × IsInput (R.remaining reader.old.inner) input
         × FillsBuffer is_full buf.new (start.now ++ input)) }
     ensures count { OnErr result (Grew reader.old.errors reader.new.errors) }
+    ensures quiet { OnOk result (reader.new.errors ≡ reader.old.errors) }
 {
     let had = start.len().min(buf.len());
     let (front, back) = buf.split_at_mut(had);
@@ -146,6 +147,7 @@ pub(crate) fn read_body<R: Read>(
         (λ body. (input : List ℕ) × IsInput (R.remaining reader.old.inner) input
         × IsBody body size (start.now ++ input)) }
     ensures count { OnErr result (Grew reader.old.errors reader.new.errors) }
+    ensures quiet { OnOk result (reader.new.errors ≡ reader.old.errors) }
 {
     let Ok(mut body) = vec![in alloc; 0u8; size] else {
         return Ok(Content::NoMemory);

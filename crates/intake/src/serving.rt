@@ -1,4 +1,4 @@
-ghost use Rattle.std.specs.Prelude.{◌≡◌, ◌⊎◌, ℕ, Option, length, drop, OnErr, IfOk, IfErr, IfSome, string_bytes};
+ghost use Rattle.std.specs.Prelude.{◌≡◌, ◌⊎◌, ℕ, Option, length, drop, OnErr, OnOk, IfOk, IfErr, IfSome, string_bytes};
 ghost use Rattle.httparse.specs.Grammar.{RequestHead};
 ghost use Rattle.httparse.specs.Spans.{IsRequestWithin, IsRequestAt};
 ghost use Rattle.profile.specs.Header.{Who as Partner};
@@ -45,6 +45,7 @@ fn answer<R: Read, K: Keeper>(
         moment h (drop spans.now.len got.now) (seen replied.response) replied.sender) }
     ensures same { OnErr result (IsUnchanged (K.standing keeper.old) (K.standing keeper.new)) }
     ensures count { OnErr result (Grew reader.old.errors reader.new.errors) }
+    ensures quiet { OnOk result (reader.new.errors ≡ reader.old.errors) }
     ensures goes { GoesOn (K.standing keeper.old) (K.standing keeper.new) }
 {
     let named = &fields[..spans.headers];
@@ -126,6 +127,7 @@ fn receive<R: Read, K: Keeper>(
     ensures same { OnErr result.replied (IsUnchanged (K.standing keeper.old)
         (K.standing keeper.new)) }
     ensures count { OnErr result.replied (Grew reader.old.errors reader.new.errors) }
+    ensures quiet { OnOk result.replied (reader.new.errors ≡ reader.old.errors) }
     ensures goes { GoesOn (K.standing keeper.old) (K.standing keeper.new) }
 {
     let mut buf = [0u8; MOST_HEAD];
@@ -185,6 +187,8 @@ pub fn serve_telling<R: Read, W: Write, K: Keeper>(
         (R.remaining reader.old.inner) moment
         (W.contents writer.old.inner) (W.contents writer.new.inner)
         writer.old.errors writer.new.errors result.line result.sender result.bytes) }
+    ensures quiet { OnOk result.outcome ((reader.new.errors ≡ reader.old.errors)
+        × (writer.new.errors ≡ writer.old.errors)) }
     ensures fault { IfErr result.outcome (λ fault. fault ≡ Fault.Device) }
     ensures goes { GoesOn (K.standing keeper.old) (K.standing keeper.new) }
 {
@@ -236,6 +240,8 @@ pub fn serve_one<R: Read, W: Write, K: Keeper>(
         (R.remaining reader.old.inner) moment
         (W.contents writer.old.inner) (W.contents writer.new.inner)
         writer.old.errors writer.new.errors line sender bytes)) }
+    ensures quiet { OnOk result ((reader.new.errors ≡ reader.old.errors)
+        × (writer.new.errors ≡ writer.old.errors)) }
     ensures fault { IfErr result (λ fault. fault ≡ Fault.Device) }
     ensures goes { GoesOn (K.standing keeper.old) (K.standing keeper.new) }
 {

@@ -1,5 +1,5 @@
 -- What a job over a database says of the files that the database was opened from.
-use Rattle.std.proofs.Common.{◌≤◌, ℕ, List, Option, refl, sym, ap, subst, ◌∙◌, arith}
+use Rattle.std.proofs.Common.{◌≡◌, ◌≤◌, IsTrue, ℕ, List, Option, refl, sym, ap, subst, ◌∙◌, arith}
 use Rattle.sqlite.specs.Held.{Held, state}
 use Rattle.sqlite.specs.Recovery.{Image}
 use Rattle.sqlite.specs.Start.{FindsIn}
@@ -7,10 +7,13 @@ use Rattle.sqlite.specs.State.{State, HasCleanDisk, Opens, IsLive}
 use Rattle.sqlite.specs.Effect.{Database}
 use Rattle.sqlite.specs.Store.{Ghosts}
 use Rattle.sqlite_trees.specs.View.{doubt}
+use Rattle.sqlite.specs.Tree.{Trees}
 use Rattle.profile.specs.declared.rules.Rules.{Rules}
+use Rattle.profile.specs.declared.rules.Rules.TheVariants.{One}
 use Rattle.profile.specs.Header.{Who}
 use Rattle.profile.specs.Register.{Entry}
-use Rattle.book_statements.specs.Carrying.{StandsInAs, StandsOpenAs}
+use Rattle.book_statements.specs.Carrying.{LeavesCarried, StandsInAs, StandsOpenAs}
+use Rattle.books.specs.Carrying.{AllStandAs, OpensAs}
 use Rattle.books.specs.Opened.{Opened, standing_of}
 use Rattle.commands.specs.Acting.{Ending}
 use Rattle.commands.specs.declared.told.CommandError.{CommandError}
@@ -21,7 +24,7 @@ use Rattle.running.specs.Opening.{IsNotOpened, IsOfFile}
 use Rattle.running.specs.Working.{IsWork}
 use Rattle.running.specs.declared.over_file.Job.{Job}
 use Rattle.running.specs.declared.over_file.Job.TheVariants as job
-use Rattle.running.proofs.StopLemmas.{stands_as_read}
+use Rattle.running.proofs.StopLemmas.{stands_as_read, still_carried}
 
 -- the database that files open as stands for the book that they held
 pub stands_found : (image : Image) (s : State) (q : Rules) (W : Who) (L : List Entry) → Opens s × IsLive s → FindsIn image s → HoldsBook image q W L → StandsOpenAs q s W L
@@ -58,7 +61,8 @@ module _ {S W : Type 0} (store : Ghosts S) (contents : W → Option (List ℕ)) 
   not_opened job.Check database left f of h = h
 
   module _ (image : Image) (database left : Held S) (opens : HasCleanDisk (state store database) → Opens (state store database) × IsLive (state store database))
-      (found : HasCleanDisk (state store database) → FindsIn image (state store database)) (j : Job) (before later : W) where
+      (found : HasCleanDisk (state store database) → FindsIn image (state store database))
+      (settled : IsTrue (state store database).is_open → (db : Trees) → (state store database).may_leave db → db ≡ (state store database).committed.trees) (j : Job) (before later : W) where
     pub done_from : (status : ExitStatus) → IsJobDone store contents database left j before later status → IsDoneFrom store contents image left j before later status
     done_from status d = record {
       database = database;
@@ -78,6 +82,13 @@ module _ {S W : Type 0} (store : Ghosts S) (contents : W → Option (List ℕ)) 
     stopped_from stop s = record {
       database = database;
       stopped = s;
+      book = λ b of clean q W L held.
+          let last : HasCleanDisk (state store b.worked.tables.conn) = subst (λ h. HasCleanDisk (state store h)) b.back clean in
+          let at = work_goes j b.opened b.worked before later _ b.work in
+          let first : HasCleanDisk (state store b.opened.tables.conn) = omega (arith, at, last) in
+          let file = of_file j database b.opened of b.begun in
+          let early : HasCleanDisk (state store database) = omega (arith, file.clean, first) in
+          file.stood first q W L (stands_found image _ q W L (opens early) (found early) held);
       this = λ no of clean q W L held.
           let is = not_opened j database left no.fault of no.why in
           let why = is.why in
@@ -86,4 +97,18 @@ module _ {S W : Type 0} (store : Ghosts S) (contents : W → Option (List ℕ)) 
           let first : HasCleanDisk (state store is.tables.conn) = omega (arith, opening.clean, handed) in
           let early : HasCleanDisk (state store database) = subst (λ h. HasCleanDisk (state store h)) is.before first in
           why.this handed q W L (subst (λ h. StandsOpenAs q (state store h) W L) (sym is.before) (stands_found image _ q W L (opens early) (found early) held));
+      kept = λ no of clean q W L held.
+          let is = not_opened j database left no.fault of no.why in
+          let asked : OpensAs (state store database) (state store left) = subst (λ h. OpensAs (state store h) (state store left)) is.before
+          (subst (λ h. OpensAs (state store is.tables.conn) (state store h)) is.after (let why = is.why in why.asked)) in
+          let early : HasCleanDisk (state store database) = omega (arith, asked.clean, clean) in
+          let opened = opens early in
+          let here = stands_found image _ q W L opened (found early) held in
+          let trees : (state store database).committed.trees ≡ held.db = (found early).holds held.db held.held in
+          let all : AllStandAs q (state store database) W L = λ db may. subst (StandsInAs q W L) (sym (settled opened.0.is_open db may ∙ trees)) held.stands in
+          let carried : StandsOpenAs One (state store database) W L → AllStandAs One (state store database) W L → (db : Trees) → (state store left).may_leave db → LeavesCarried W L db =
+          subst (λ h. StandsOpenAs One (state store h) W L → AllStandAs One (state store h) W L → (db : Trees) → (state store left).may_leave db → LeavesCarried W L db) is.before
+          (subst (λ h. StandsOpenAs One (state store is.tables.conn) W L → AllStandAs One (state store is.tables.conn) W L → (db : Trees) → (state store h).may_leave db → LeavesCarried W L db) is.after
+          (let why = is.why in why.carried (subst (λ h. HasCleanDisk (state store h)) (sym is.after) clean) W L)) in
+          still_carried (state store database) (state store left) q W L clean opened.0.is_open here all asked carried;
     }

@@ -5,3 +5,6 @@ mod LeftLemmas
 mod CrossLemmas
 mod AgainLemmas
 mod DaysLemmas
+mod EndLemmas
+mod RerunLemmas
+mod JobLemmas

@@ -13,10 +13,10 @@ use Rattle.profile.specs.declared.rules.Rules.{Rules}
 use Rattle.profile.specs.Header.{Who}
 use Rattle.profile.specs.Register.{Entry}
 use Rattle.store.specs.Fault.TheVariants.{NotThisBook}
-use Rattle.book_statements.specs.Carrying.{StandsInAs}
+use Rattle.book_statements.specs.Carrying.{LeavesCarried, StandsInAs}
 use Rattle.commands.specs.declared.told.CommandError.{CommandError}
 use Rattle.commands.specs.declared.told.ExitStatus.{ExitStatus}
-use Rattle.running.specs.Done.{IsJobDone, IsJobStopped, IsNoBook}
+use Rattle.running.specs.Done.{IsJobBroken, IsJobDone, IsJobStopped, IsNoBook}
 use Rattle.running.specs.Faults.{fault_of}
 use Rattle.running.specs.Opening.{IsBookOf}
 use Rattle.running.specs.declared.over_file.Job.{Job}
@@ -47,15 +47,21 @@ pub record IsDoneFrom
   pub done : IsJobDone store contents database left job before later status
   pub book : IsOfBook job → OfHeld store image left (λ W L. IsBookOf store (done.opened) W L)
 
--- The job was stopped over the database in the files, or there was no book in it: that isn't said
--- to be another's (43) if the files held a book.
+-- The job was stopped over the database in the files: over the book that these held. Or there was
+-- no book in it: that isn't said to be another's (43) if the files held a book, and then a crash
+-- leaves that book, as it was or carried over.
 pub record IsStoppedFrom
     {S W : Type 0} (store : Ghosts S) (contents : W → Option (List ℕ)) (image : Image)
     (left : Held S) (job : Job) (before later : W) (stop : CommandError) : Type 0 where
   pub database : Held S
   pub stopped : IsJobStopped store contents database left job before later stop
+  pub book : (b : IsJobBroken store contents database left job before later stop) → IsOfBook job
+      → OfHeld store image left (λ W L. IsBookOf store (b.opened) W L)
   pub this : (no : IsNoBook store database left job before later stop) → IsOfBook job
       → OfHeld store image left (λ W L. no.fault ≢ NotThisBook)
+  pub kept : (no : IsNoBook store database left job before later stop) → IsOfBook job
+      → OfHeld store image left (λ W L. (db : Trees) → (state store left).may_leave db
+      → LeavesCarried W L db)
 
 -- The files couldn't be opened as a database, and nothing was printed. That is said to be another's
 -- (43) of files that held a book only where the disk itself told of a fault.

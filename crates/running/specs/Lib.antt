@@ -1,11 +1,14 @@
 pub mod Checking
 pub mod Days
 pub mod Done
+pub mod Ended
 pub mod Explaining
 pub mod Faults
 pub mod FromFile
-pub mod FileStops
+pub mod FileEnds
 pub mod Opening
+pub mod Rerun
 pub mod Stopped
 pub mod StopFaults
+pub mod Unchecked
 pub mod Working

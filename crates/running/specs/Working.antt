@@ -7,10 +7,12 @@ use Rattle.store.specs.Refusal.{Refusal}
 use Rattle.store.specs.Refusal.TheVariants.{BadText}
 use Rattle.store.specs.Standing.{Standing, GoesOn}
 use Rattle.commands.specs.Acting.{Ending, IsPerformed}
+use Rattle.commands.specs.Files.{IsWithin, Reads}
 use Rattle.commands.specs.Looking.{IsAskedFor, IsLook, is_readable}
 use Rattle.commands.specs.Playing.{HasPlayed, HasStopped, asking}
 use Rattle.commands.specs.Readying.{IsMadeReady, IsUnready}
 use Rattle.commands.specs.Serving.{HasServed, HasServedUpTo, audience_of}
+use Rattle.commands.specs.declared.files.TheConstants.{MOST_SCRIPT}
 use Rattle.commands.specs.declared.told.ExitStatus.TheVariants.{Done}
 use Rattle.running.specs.declared.over_file.Job.{Job}
 use Rattle.running.specs.declared.over_file.Job.TheVariants as job
@@ -22,26 +24,27 @@ abbrev pub says_none : Option Moment → Bool
 says_none None = true
 says_none (Some t) = false
 
--- it is what the line asks for, at the moment that the line says, if it says one; a server goes by
--- the clock where the line says none
-abbrev pub IsJobFor : Task → Job → Type 0
-IsJobFor (task.Init who) (job.Make warehouse) = who_of who.now ≡ Some warehouse
-IsJobFor (task.Act a at) (job.Change ready moment) = IsMadeReady a ready
+-- It is what the line asks for, of files as they were read, at the moment that the line says, if it
+-- says one; a server goes by the clock where the line says none.
+abbrev pub IsJobFor : Reads → Task → Job → Type 0
+IsJobFor reads (task.Init who) (job.Make warehouse) = who_of who.now ≡ Some warehouse
+IsJobFor reads (task.Act a at) (job.Change ready moment) = IsMadeReady reads a ready
     × IfSome at (λ t. moment ≡ t)
-IsJobFor (task.Show s) (job.Look asked) = IsAskedFor s asked
-IsJobFor (task.Batch file) (job.Play text) = Unit {0}
-IsJobFor task.Verify job.Check = Unit {0}
-IsJobFor (task.Serve s at) (job.Listen service first has_clock file) =
+IsJobFor reads (task.Show s) (job.Look asked) = IsAskedFor s asked
+IsJobFor reads (task.Batch file) (job.Play text) =
+    IsWithin reads file.now MOST_SCRIPT (string_bytes text)
+IsJobFor reads task.Verify job.Check = Unit {0}
+IsJobFor reads (task.Serve s at) (job.Listen service first has_clock file) =
     (service ≡ s) × IfSome at (λ t. first ≡ t) × (has_clock ≡ says_none at)
-IsJobFor t j = ⊥
+IsJobFor reads t j = ⊥
 
 -- what the line asks for isn't made ready, for this reason; a batch, a check and a server are never
 -- refused
-abbrev pub IsNoJobFor : Task → Refusal → Type 0
-IsNoJobFor (task.Init who) refusal = (refusal ≡ BadText) × (who_of who.now ≡ None)
-IsNoJobFor (task.Act a at) refusal = IsUnready a refusal
-IsNoJobFor (task.Show s) refusal = (refusal ≡ BadText) × (is_readable s ≡ false)
-IsNoJobFor t refusal = ⊥
+abbrev pub IsNoJobFor : Reads → Task → Refusal → Type 0
+IsNoJobFor reads (task.Init who) refusal = (refusal ≡ BadText) × (who_of who.now ≡ None)
+IsNoJobFor reads (task.Act a at) refusal = IsUnready reads a refusal
+IsNoJobFor reads (task.Show s) refusal = (refusal ≡ BadText) × (is_readable s ≡ false)
+IsNoJobFor reads t refusal = ⊥
 
 -- the rows of a batch were played, to their end or up to one that stopped it
 abbrev pub IsBatchPlayed : {K W : Type 0} → (K → Standing) → (W → Option (List ℕ)) → List ℕ → K → W

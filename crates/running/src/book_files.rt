@@ -11,9 +11,7 @@ ghost use Rattle.running.specs.Faults as meant;
 ghost use Rattle.running.specs.Opening.{IsNotMade};
 
 use books::{Book, Tables, is_blank};
-use commands::CommandError;
-use sqlite::{Alter, Connection, Error, ErrorCode, FileStore};
-use sqlite_disk::Disk;
+use sqlite::{Alter, Connection, Error, ErrorCode};
 use std::alloc::Global;
 use store::{Fault, Warehouse};
 
@@ -39,17 +37,6 @@ pub fn is_in_use(error: &Error) -> bool
     ensures { result ≡ meant.is_in_use error.now }
 {
     matches!(error, Error::SqliteFailure(ErrorCode::DatabaseBusy))
-}
-
-/// Closes a database: its log is copied into the file. Where that fails (40, 43 or 44), the log
-/// still holds what isn't copied, and the next opening finds it there.
-pub fn disconnect<D: Disk + Drop>(database: Connection<FileStore<D>>) -> Result<(), CommandError>
-    ensures { IfErr result meant.IsClosingFault }
-{
-    match database.close() {
-        Ok(()) => Ok(()),
-        Err(error) => Err(CommandError::Fault(fault(&error))),
-    }
 }
 
 /// Makes the book of a warehouse in a database that is in no transaction. NotThisBook (43) where

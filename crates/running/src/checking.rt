@@ -1,12 +1,15 @@
 //! A book in a database checked whole: its tables are read anew, and compared with what its
 //! register gives.
-ghost use Rattle.std.specs.Prelude.{◌≡◌, false, IfErr, IfOk, IsTrue};
+ghost use Rattle.std.specs.Prelude.{◌≡◌, ◌≤◌, false, IfErr, IfOk, IsTrue};
 ghost use Rattle.sqlite.specs.Held.{state};
 ghost use Rattle.sqlite.specs.State.{HasCleanDisk};
-ghost use Rattle.store.specs.Standing.{IsUnchanged};
+ghost use Rattle.sqlite_trees.specs.View.{doubt};
+ghost use Rattle.store.specs.Standing.{IsQuery};
 ghost use Rattle.books.specs.Opened.{standing_of};
 ghost use Rattle.books.specs.Verified.{CountsKept, OfTables, StandsChecked};
+ghost use Rattle.commands.specs.Stops.{IsReasonStopped};
 ghost use Rattle.running.specs.Checking.{IsChecked, IsFoundWhole, TellsWhole};
+ghost use Rattle.running.specs.Unchecked.{IsUnchecked};
 ghost use Rattle.running.specs.Faults.{IsReadFault};
 ghost use Rattle.running.specs.Opening.{IsOpenedAnew};
 
@@ -32,6 +35,8 @@ fn open_anew<S: Alter + Drop, E: io::Write>(
 
     ensures opened { IfOk result (λ b. b.shut ≡ false) }
     ensures anew { IfOk result (IsOpenedAnew S.Store database) }
+    ensures clean { IfOk result (λ b. doubt (state S.Store database).is_clean
+        ≤ doubt (state S.Store b.tables.conn).is_clean) }
     ensures named { IfErr result IsReadFault }
 {
     let tables = match Tables::new(database).reopened(alloc) {
@@ -52,7 +57,7 @@ fn watched<S: Alter + Drop, E: io::Write>(
 ) -> Result<u64, Fault>
     ensures stands { StandsChecked S.Store book.old book.new result }
     ensures whole { CountsKept S.Store book.old book.new result }
-    ensures same { IsUnchanged (standing_of S.Store book.old) (standing_of S.Store book.new) }
+    ensures query { IsQuery (standing_of S.Store book.old) (standing_of S.Store book.new) result }
 {
     if !verbosity.watches {
         return book.verify();
@@ -75,6 +80,8 @@ fn check<S: Alter + Drop, W: io::Write, E: io::Write>(
 ) -> Result<ExitStatus, CommandError>
     ensures checked { IsChecked (standing_of S.Store book.old) (standing_of S.Store book.new)
         (W.contents out.old) (W.contents out.new) result }
+    ensures stopped { IfErr result
+        (IsReasonStopped (standing_of S.Store book.old) (standing_of S.Store book.new)) }
     ensures stands { OfTables S.Store book.old book.new
         (IfOk result (λ _. IsTrue (state S.Store book.old.tables.conn).is_open
         × TellsWhole (state S.Store book.old.tables.conn).now (W.contents out.old)
@@ -99,8 +106,13 @@ pub(crate) fn check_over<S: Alter + Drop, W: io::Write, E: io::Write>(
 
     ensures whole { IfOk result (λ r. HasCleanDisk (state S.Store r.1)
         → IsFoundWhole (state S.Store database) (W.contents out.old) (W.contents out.new)) }
+    ensures clean { IfOk result (λ r. doubt (state S.Store database).is_clean
+        ≤ doubt (state S.Store r.1).is_clean) }
+    ensures stopped { IfErr result (IsUnchecked S.Store database) }
 {
     let mut book = open_anew(alloc, database, verbosity, err)?;
-    let status = check(&mut book, verbosity, out, err)?;
-    Ok((status, close(book)))
+    match check(&mut book, verbosity, out, err) {
+        Ok(status) => Ok((status, close(book))),
+        Err(stop) => Err(stop),
+    }
 }

@@ -11,6 +11,9 @@ mod over_server;
 mod run;
 mod starting;
 pub mod stops;
+mod waiting;
 
-pub use run::command;
+pub use from_file::FilesLeft;
+pub use over_file::Job;
+pub use run::{command, command_from};
 pub use starting::program;

@@ -1,43 +1,40 @@
-//! What a line says, done over the book in a file: words are tested and files read before the book
-//! is opened, and it is closed before the line is done.
-ghost use Rattle.std.specs.Prelude.{◌≡◌, ◌≤◌, false, IfErr, IfOk};
+//! What a line says, made ready before the book is opened (words are tested and files read), and
+//! what is made ready, done over the book in a database.
+ghost use Rattle.std.specs.Prelude.{◌≡◌, false, IfErr, IfOk};
 ghost use Rattle.store.specs.Standing.{IsUnchanged};
 ghost use Rattle.books.specs.Opening.{IsHandedBack, IsOpened};
-ghost use Rattle.commands.specs.Stops.{fault_in};
 ghost use Rattle.running.specs.Done.{IsBegun, IsJobDone, IsJobStopped, IsNotBegun};
 ghost use Rattle.running.specs.Working.{IsJobFor, IsNoJobFor, IsWork};
 
-use crate::book_files::{close, disconnect, fault, is_in_use, make};
-use crate::from_file::{FileStop, do_from};
+use crate::book_files::{close, make};
 use books::{Book, Tables};
 use command_line::{Service, Task};
 use commands::{
-    CommandError, ExitStatus, Look, Ready, ServedFile, Verbosity, about_book, about_missing,
-    about_opening, about_use, ask, moment_for, perform, play_over, read_lines, ready_at, serve,
-    show, tell_reason, tell_unready,
+    CommandError, ExitStatus, FileNames, Look, Ready, ServedFile, TimeSource, Verbosity,
+    about_missing, ask, moment_for, perform, play_over, read_lines, ready_at, serve, show,
+    tell_reason,
 };
-use sqlite::{Alter, Connection, Unknown};
+use folders::FileSystem;
+use sqlite::{Alter, Connection};
 use std::alloc::Global;
-use std::rt::{Clock, Files};
-use std::time::Duration;
-use std::{fs, io, thread};
+use std::io;
 use store::{Fault, Keeper, Moment, Refusal, Warehouse, Who};
 
-// What is to be done over a book, its words tested and its files read.
+/// What is to be done over a book, its words tested and its files read.
 #[derive(Drop)]
-pub(crate) enum Job<'a> {
-    // make it
+pub enum Job<'a> {
+    /// Make it.
     Make(Warehouse),
-    // change the book
+    /// Change the book.
     Change(Ready<'a>, Moment),
-    // show something of it
+    /// Show something of it.
     Look(Look<'a>),
-    // do what the lines of a text ask for
+    /// Do what the lines of a text ask for.
     Play(String),
-    // serve it over HTTP, from a first moment on, and by the clock or not, while its name leads to
-    // this file
+    /// Serve it over HTTP, from a first moment on, and by the clock or not, while its name leads to
+    /// this file.
     Listen(Service, Moment, bool, ServedFile<'a>),
-    // compare every table with what the register gives
+    /// Compare every table with what the register gives.
     Check,
 }
 
@@ -160,93 +157,9 @@ pub(crate) fn work_over<S: Alter + Drop, W: io::Write, E: io::Write>(
     }
 }
 
-// For how many seconds a book that is in use is waited for, where a line doesn't say it.
-const WAIT: u16 = 5;
-
-// How often a book that is in use is looked at, in a second.
-const LOOKS_A_SECOND: u32 = 20;
-
-// How often a book is looked at while it is in use, of a line that says for how many seconds that
-// is.
-fn looks_of(wait: Option<u16>) -> u32
-    ensures { 1 ≤ result }
-{
-    let seconds = match wait {
-        Some(seconds) => seconds,
-        None => WAIT,
-    };
-    1 + u32::from(seconds) * LOOKS_A_SECOND
-}
-
-// Does a job over the book in a file, of which it is known whether it is there, and closes it. At a
-// fault it is let go as it is: its log has all that was answered, and nothing more is written to a
-// store that has just failed. This function alone names a database on disk, and supposes of the
-// file that a torn write leaves each byte old or new (`Unknown`).
-fn over<W: io::Write, E: io::Write>(
-    rt: &HostRuntime,
-    file: &str,
-    looks: u32,
-    job: &Job<'_>,
-    verbosity: Verbosity,
-    out: &mut W,
-    err: &mut E,
-) -> Result<ExitStatus, CommandError> {
-    for look in 0..looks {
-        if look > 0 {
-            thread::sleep(rt, Duration::from_millis(1_000 / u64::from(LOOKS_A_SECOND)));
-        }
-        match do_from(rt, file, Unknown, job, verbosity, out, err) {
-            Ok((status, database)) => {
-                disconnect(database)?;
-                return Ok(status);
-            }
-            Err(FileStop::Stopped(stop)) => return Err(stop),
-            Err(FileStop::Unopened(error)) if !is_in_use(&error) => {
-                return Err(about_opening(rt.alloc(), file, fault(&error)));
-            }
-            Err(FileStop::Unopened(_)) => {}
-        }
-    }
-    Err(about_use(rt.alloc(), file))
-}
-
-// What stopped a job over the book in a file, with what it is about.
-fn about_job(alloc: Global, file: &str, job: &Job<'_>, stop: CommandError) -> CommandError
-    ensures { fault_in result ≡ fault_in stop }
-{
-    match job {
-        Job::Make(_) => about_book(alloc, file, true, stop),
-        _ => about_book(alloc, file, false, stop),
-    }
-}
-
-// Does a job over the book in a file. NotThisBook (43) where the file holds no database; Device
-// (44) where it can't be made, read or written, is missing and isn't to be made, or is still in use
-// after it was waited for.
-fn over_found<W: io::Write, E: io::Write>(
-    rt: &HostRuntime,
-    file: &str,
-    wait: Option<u16>,
-    job: &Job<'_>,
-    verbosity: Verbosity,
-    out: &mut W,
-    err: &mut E,
-) -> Result<ExitStatus, CommandError> {
-    if !matches!(job, Job::Make(_)) {
-        // A database that is opened is made where its file is missing.
-        if let Err(error) = fs::metadata(rt, file) {
-            return Err(about_missing(rt.alloc(), file, &error));
-        }
-    }
-    match over(rt, file, looks_of(wait), job, verbosity, out, err) {
-        Ok(status) => Ok(status),
-        Err(stop) => Err(about_job(rt.alloc(), file, job, stop)),
-    }
-}
-
 // The file that is to be served. It is looked at before it is opened: so one that is replaced in
 // between is noticed too.
-fn found<'a, R: Files + AllocGlobal>(
+fn found<'a, R: FileNames + AllocGlobal>(
     rt: &R,
     file: &'a str,
 ) -> Result<ServedFile<'a>, CommandError> {
@@ -257,13 +170,13 @@ fn found<'a, R: Files + AllocGlobal>(
 }
 
 // What a line says is to be done over the book in a file, its words tested and its files read.
-fn job_of<'a, R: Files + Clock + AllocGlobal>(
+pub(crate) fn job_of<'a, R: FileSystem + FileNames + TimeSource + AllocGlobal>(
     rt: &R,
     file: &'a str,
     task: &Task<'a>,
 ) -> Result<Result<Job<'a>, Refusal>, CommandError>
-    ensures job { IfOk result (λ made. IfOk made (IsJobFor task.now)) }
-    ensures none { IfOk result (λ made. IfErr made (IsNoJobFor task.now)) }
+    ensures job { IfOk result (λ made. IfOk made (IsJobFor (R.reads rt.now) task.now)) }
+    ensures none { IfOk result (λ made. IfErr made (IsNoJobFor (R.reads rt.now) task.now)) }
 {
     match task {
         Task::Init { who } => match Who::new(who.as_bytes()) {
@@ -285,23 +198,5 @@ fn job_of<'a, R: Files + Clock + AllocGlobal>(
             let served = found(rt, file)?;
             Ok(Ok(Job::Listen(*service, first, at.is_none(), served)))
         }
-    }
-}
-
-/// Does over the book in a file what a line says; a book that is in use is waited for, 5 seconds
-/// where the line doesn't say how long. A clock that can't be used is told before the book is
-/// opened.
-pub fn run_over_file<'a, W: io::Write, E: io::Write>(
-    rt: &HostRuntime,
-    file: &'a str,
-    wait: Option<u16>,
-    task: &Task<'a>,
-    verbosity: Verbosity,
-    out: &mut W,
-    err: &mut E,
-) -> Result<ExitStatus, CommandError> {
-    match job_of(rt, file, task)? {
-        Ok(job) => over_found(rt, file, wait, &job, verbosity, out, err),
-        Err(refusal) => tell_unready(rt, task, refusal, verbosity, err),
     }
 }

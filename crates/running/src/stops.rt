@@ -5,9 +5,11 @@ mod crossing;
 mod leaving;
 mod passing;
 mod reopening;
+mod rerunning;
 
 pub use answering::Answered;
 pub use crossing::across;
 pub use leaving::{a_usable_book_is_reopened_whole, something_is_left};
 pub use passing::days;
 pub use reopening::reopened;
+pub use rerunning::{StoppedRun, run_and_stop, run_twice};

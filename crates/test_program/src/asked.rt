@@ -8,6 +8,7 @@ use crate::telling::{hold, tell};
 use crate::texts::text_of;
 use cases::clerks::{deeds, looks, response_of, strays};
 use cases::sections::section_of;
+use cases::spreading::spread;
 use commands::{CommandError, ExitStatus, tell_stop};
 use errands::remote::{ServerAnswer, Unanswered, read_answer};
 use errands::{tell_document, tell_report};
@@ -19,7 +20,8 @@ use std::test::Fail;
 
 // The answer that the response of a case is.
 fn answer_of(rt: &HostRuntime, case: &str) -> Result<ServerAnswer, Fail> {
-    let response = response_of(rt.alloc(), section_of(case, "answered").1)?;
+    let answered = spread(rt.alloc(), section_of(case, "answered").1)?;
+    let response = response_of(rt.alloc(), &answered)?;
     let mut bytes = response.as_bytes();
     match read_answer(rt.alloc(), &mut bytes) {
         Ok(answer) => Ok(answer),
@@ -58,8 +60,9 @@ fn told(rt: &HostRuntime, case: &str) -> Result<Ran, Fail> {
 // The case's answer is told as the case has it.
 fn is_told(rt: &HostRuntime, case: &str) -> Result<(), Fail> {
     let (status, line) = section_of(case, "ends");
+    let printed = spread(rt.alloc(), section_of(case, "printed").1)?;
     let wanted = Wanted {
-        printed: section_of(case, "printed").1,
+        printed: &printed,
         told: line,
         status: status.parse()?,
     };

@@ -7,6 +7,7 @@
 use crate::ran::{Wanted, run_lines, run_text};
 use crate::telling::{hold, tell};
 use crate::texts::{answer, has_text, remove, remove_book, text_of, write_advice};
+use cases::spreading::spread;
 use std::fs;
 use std::os::unix::fs::symlink;
 use std::test::Fail;
@@ -199,6 +200,18 @@ fn an_interchange_with_too_long_a_name_is_told(rt: &HostRuntime) -> Result<(), F
     run_text(rt, script)?.compare("a long name", &wanted)
 }
 
+// A folder of more than a thousand files. None can be read, and each is told.
+fn a_large_folder_is_taken_whole(rt: &HostRuntime) -> Result<(), Fail> {
+    fs::create_dir(rt, "many")?;
+    for n in 1..=1_001 {
+        let name = format!(in rt.alloc(); "many/{n:04}.x12")?;
+        fs::write(rt, &name, "X")?;
+    }
+    let printed = spread(rt.alloc(), "{1001:%.x12 unreadable\n}")?;
+    let script = "init ZZ-WHSE1\ntake many --at 2025-03-04T09:15";
+    run_text(rt, script)?.compare("a large folder", &taken(&printed))
+}
+
 /// Plays them.
 pub(crate) fn all(rt: &HostRuntime) -> Result<(), Fail> {
     tell(
@@ -216,5 +229,10 @@ pub(crate) fn all(rt: &HostRuntime) -> Result<(), Fail> {
         rt,
         "an interchange with too long a name is told",
         an_interchange_with_too_long_a_name_is_told(rt),
+    )?;
+    tell(
+        rt,
+        "a large folder is taken whole",
+        a_large_folder_is_taken_whole(rt),
     )
 }

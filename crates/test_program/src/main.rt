@@ -7,10 +7,12 @@
 #![tactic(auto)]
 
 mod asked;
+mod asking;
 mod carried;
 mod changes;
 mod inboxes;
 mod laying;
+mod left;
 mod on_disk;
 mod playing;
 mod plays;
@@ -26,10 +28,12 @@ use std::test::Fail;
 fn main(rt: HostRuntime) -> Result<(), Fail> {
     plays::all(&rt)?;
     asked::all(&rt)?;
+    asking::all(&rt)?;
     carried::all(&rt)?;
     changes::all(&rt)?;
     inboxes::all(&rt)?;
     on_disk::all(&rt)?;
+    left::all(&rt)?;
     served::all(&rt)?;
     usage::all(&rt)
 }

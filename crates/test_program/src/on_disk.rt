@@ -159,6 +159,24 @@ fn files_that_are_no_book_stay_as_they_are(rt: &HostRuntime) -> Result<(), Fail>
     hold(is_absent, "no book is made")
 }
 
+// What a batch prints and tells whose second line can't be kept.
+const STOPPED: Wanted<'static> = Wanted {
+    printed: "ZZ-ACME\n",
+    told: "stopped at line 2\nfault 41 Store\n",
+    status: 3,
+};
+
+// A command that can't be kept isn't answered, and what is before it in a batch is answered once.
+fn what_is_not_kept_is_not_answered(rt: &HostRuntime) -> Result<(), Fail> {
+    make_counted(rt)?;
+    over_database(rt, "case.book", "DROP TABLE entry_rules", "")?;
+    let other = text_of(rt, "inboxes/c2.x12")?;
+    fs::write(rt, "unkept.x12", other.as_str())?;
+    play_unopened(rt, &text_of(rt, "on_disk/unkept.rows")?)?;
+    fs::write(rt, "unkept.batch", "depositors\nenrol ZZ-BETA\n")?;
+    run_lines(rt, "case.book", "batch unkept.batch")?.compare("a batch", &STOPPED)
+}
+
 /// Plays them.
 pub(crate) fn all(rt: &HostRuntime) -> Result<(), Fail> {
     tell(rt, "a day is kept in a file", a_day_is_kept_in_a_file(rt))?;
@@ -171,6 +189,11 @@ pub(crate) fn all(rt: &HostRuntime) -> Result<(), Fail> {
         rt,
         "a row that cannot be read is a fault",
         a_row_that_cannot_be_read_is_a_fault(rt),
+    )?;
+    tell(
+        rt,
+        "what is not kept is not answered",
+        what_is_not_kept_is_not_answered(rt),
     )?;
     tell(
         rt,

@@ -20,7 +20,7 @@
 //! stands there that often, with 0, 1, .. in place of each `#` in it, and 0001, 0002, .. in place
 //! of each `%`.
 use crate::ran::{Wanted, do_lines, run, run_explained, run_lines, run_text};
-use crate::texts::{remove_book, text_of};
+use crate::texts::{lay_left, remove_book, text_of};
 use cases::sections::section_of;
 use cases::spreading::spread;
 use std::fs;
@@ -66,6 +66,18 @@ fn play_explained(
     .compare(name, wanted)
 }
 
+// Plays a script line by line over a new book in a file.
+fn play_lines(rt: &HostRuntime, name: &str, script: &str, wanted: &Wanted<'_>) -> Result<(), Fail> {
+    remove_book(rt, "case.book", "case.book-wal")?;
+    run_lines(rt, "case.book", script)?.compare(name, wanted)
+}
+
+// Plays a script line by line over a copy of the book that was left.
+fn play_left(rt: &HostRuntime, name: &str, script: &str, wanted: &Wanted<'_>) -> Result<(), Fail> {
+    lay_left(rt)?;
+    run_lines(rt, "case.book", script)?.compare(name, wanted)
+}
+
 /// Plays a script so, and line by line over another book in a file.
 pub(crate) fn play(
     rt: &HostRuntime,
@@ -74,8 +86,7 @@ pub(crate) fn play(
     wanted: &Wanted<'_>,
 ) -> Result<(), Fail> {
     play_whole(rt, name, script, wanted)?;
-    remove_book(rt, "case.book", "case.book-wal")?;
-    run_lines(rt, "case.book", script)?.compare(name, wanted)
+    play_lines(rt, name, script, wanted)
 }
 
 /// Writes the files of a case.
@@ -97,6 +108,10 @@ pub(crate) enum Ways {
     Whole,
     /// So, and line by line.
     Each,
+    /// Line by line alone.
+    Lines,
+    /// Line by line, over the book that was left (left.rt).
+    Left,
 }
 
 // Plays the script of a case, and asks why lines are refused where the case says what is told then.
@@ -111,6 +126,8 @@ fn play_ways(
     match ways {
         Ways::Whole => play_whole(rt, name, script, wanted)?,
         Ways::Each => play(rt, name, script, wanted)?,
+        Ways::Lines => play_lines(rt, name, script, wanted)?,
+        Ways::Left => play_left(rt, name, script, wanted)?,
     }
     match section_of(sections, "explained").1 {
         "" => Ok(()),

@@ -1,7 +1,7 @@
 //! Sentences that hold where texts of cases are played. In `data/plays.rows` each row is a
 //! sentence, the folder of its texts, and their names, with `|` between them. Scripts are played
 //! each way; stories, which look at what a depositor has after each command, are not played line by
-//! line.
+//! line, and what is long or checks a book (`filed`) is played line by line alone.
 use crate::playing::{Ways, play_cases};
 use crate::ran::{Wanted, run_explained};
 use crate::telling::tell;
@@ -12,6 +12,7 @@ use std::test::Fail;
 fn play_texts(rt: &HostRuntime, folder: &str, names: &str) -> Result<(), Fail> {
     let ways = match folder {
         "stories" => Ways::Whole,
+        "filed" => Ways::Lines,
         _ => Ways::Each,
     };
     for name in names.split(' ') {

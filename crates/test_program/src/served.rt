@@ -1,9 +1,14 @@
 //! A book that is served.
+ghost use Rattle.std.specs.Prelude.{◌≡◌, false};
+
+use crate::left::open_book;
 use crate::ran::{Wanted, do_lines, run_lines};
 use crate::telling::{hold, tell};
 use crate::texts::{advice, answer, remove_book, text_of};
 use cases::clerks::response_of;
-use commands::{Service, Verbosity, serve_on};
+use commands::{ServedFile, Service, Verbosity, serve_on};
+use sqlite::{Alter, Connection};
+use std::fs;
 use std::io::{Read, Write};
 use std::net::{TcpListener, TcpStream};
 use std::test::Fail;
@@ -301,6 +306,51 @@ fn an_address_in_use_is_a_fault(rt: &HostRuntime) -> Result<(), Fail> {
     Ok(())
 }
 
+// Serves the book in a database to two clients, and lets it go.
+fn serve_and_leave<S: Alter + Drop>(
+    rt: &HostRuntime,
+    conn: Connection<S>,
+    listener: &TcpListener,
+    moment: Moment,
+) -> Result<(), Fail>
+    requires { conn.in_transaction ≡ false }
+{
+    let mut book = open_book(rt, conn)?;
+    let is_posted = are_posted(rt, listener, &mut book, moment)?;
+    hold(is_posted, "two are posted to a book in a file")
+}
+
+const SERVED: Wanted<'static> = Wanted {
+    printed: "     1 ANS -\nok 2\n",
+    told: "",
+    status: 0,
+};
+
+// What was answered is there where the server stopped.
+fn what_a_server_answered_is_in_its_book(rt: &HostRuntime) -> Result<(), Fail> {
+    remove_book(rt, "served.book", "served.book-wal")?;
+    let lines = "init ZZ-WHSE1\nenrol ZZ-ACME --at 2025-03-04T09:15";
+    do_lines(rt, "served.book", lines)?;
+    let listener = TcpListener::bind(rt, "127.0.0.1:0")?;
+    let moment = Moment::new(2025, 3, 4, 9, 15).ok_or("a moment")?;
+    match Connection::open(rt, "served.book") {
+        Ok(conn) => serve_and_leave(rt, conn, &listener, moment)?,
+        Err(error) => return Err(Fail::from(error)),
+    }
+    run_lines(rt, "served.book", "outbox ZZ-ACME\nverify")?.compare("served", &SERVED)
+}
+
+// A book that is restored over, or removed, is another file.
+fn a_book_that_is_replaced_is_noticed(rt: &HostRuntime) -> Result<(), Fail> {
+    let file = ServedFile::look(rt, "served.book")?;
+    hold(file.is_there(rt), "the book is there")?;
+    fs::copy(rt, "served.book", "restored.book")?;
+    fs::rename(rt, "restored.book", "served.book")?;
+    hold(!file.is_there(rt), "another book is there")?;
+    fs::remove_file(rt, "served.book")?;
+    hold(!file.is_there(rt), "no book is there")
+}
+
 /// Plays them.
 pub(crate) fn all(rt: &HostRuntime) -> Result<(), Fail> {
     tell(rt, "each connection is told", each_connection_is_told(rt))?;
@@ -313,5 +363,15 @@ pub(crate) fn all(rt: &HostRuntime) -> Result<(), Fail> {
         rt,
         "an address in use is a fault",
         an_address_in_use_is_a_fault(rt),
+    )?;
+    tell(
+        rt,
+        "what a server answered is in its book",
+        what_a_server_answered_is_in_its_book(rt),
+    )?;
+    tell(
+        rt,
+        "a book that is replaced is noticed",
+        a_book_that_is_replaced_is_noticed(rt),
     )
 }

@@ -47,3 +47,10 @@ pub(crate) fn remove_book(rt: &HostRuntime, book: &str, log: &str) -> Result<(),
     remove(rt, book)?;
     remove(rt, log)
 }
+
+/// Lays a copy of the book that was left (left.rt), and of its log.
+pub(crate) fn lay_left(rt: &HostRuntime) -> Result<(), Fail> {
+    fs::copy(rt, "left.book", "case.book")?;
+    fs::copy(rt, "left.book-wal", "case.book-wal")?;
+    Ok(())
+}

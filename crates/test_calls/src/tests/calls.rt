@@ -2,6 +2,7 @@
 //! that break off.
 mod breaking;
 mod exchanges;
+mod taking;
 pub(crate) mod worked;
 
 use std::test::Fail;

@@ -9,7 +9,8 @@ returns-in_err-enrol_one-clause-stopped g c =
     let old = g.K.Keeper.standing c.args.book.now in
     let now = g.K.Keeper.standing c.loop-who.book in
     let new = g.K.Keeper.standing c.enrol_one.new.book in
-    let at = stopped_at old now new c.args.partners.now c.loop-who.who-index c.who-item.result c.args.moment _ _ c.loop-who.status c.in_err-enrol_one.field-0.0 i.goes c.enrol_one.ensures.goes
+    let at = stopped_at old now new c.args.partners.now c.loop-who.who-index c.who-item.result c.args.moment (g.W.Write.contents c.args.out.now)
+    (g.W.Write.contents c.loop-who.out) (g.W.Write.contents c.enrol_one.new.out) c.loop-who.status c.in_err-enrol_one.field-0.0 i.goes c.enrol_one.ensures.goes
     i.shut c.loop-who-test.true c.who-item.is i.enrolled c.in_err-enrol_one.ensures.left c.in_err-enrol_one.ensures.stopped in
     search rules
 

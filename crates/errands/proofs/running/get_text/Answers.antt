@@ -5,4 +5,4 @@ use Rattle.errands.proofs.running.get_text.Goals as goal
 
 pub returns-in-Stopped-clause-halted : goal.returns-in-Stopped-clause-halted
 returns-in-Stopped-clause-halted g c =
-    halted_by _ _ c.about_server_stop.result c.in_ok-answer.answer (Stopped c.in-Stopped.fault) c.in_ok-answer.ensures.brought (inl (search rules)) c.about_server_stop.ensures
+    halted_by g.C.Courier.brings g.C.Courier.loses c.about_server_stop.result c.in_ok-answer.answer (Stopped c.in-Stopped.fault) c.in_ok-answer.ensures.brought (inl (search rules)) c.about_server_stop.ensures

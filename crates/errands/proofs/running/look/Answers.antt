@@ -19,3 +19,22 @@ returns-in-Open-clause-told g c = elim c.in-Open.is [
   | inr (inl is) ↦ rw is.2 (rw is.2 at c.report-in-Open.ensures.told)
   | inr (inr is) ↦ rw is (rw is at c.report-in-Open.ensures.told)
 ]
+
+pub returns-in-Some-clause-halted : goal.returns-in-Some-clause-halted
+returns-in-Some-clause-halted g c = rw (c.in-Outbox.is, c.in-Some.is) (rw (c.in-Outbox.is, c.in-Some.is) at c.content.ensures.halted)
+
+pub returns-in-None-clause-halted : goal.returns-in-None-clause-halted
+returns-in-None-clause-halted g c = rw (c.in-Outbox.is, c.in-None.is) (rw (c.in-Outbox.is, c.in-None.is) at c.report.ensures.halted)
+
+pub returns-then-is_csv-clause-halted : goal.returns-then-is_csv-clause-halted
+returns-then-is_csv-clause-halted g c = rw (c.in-Stock.is, c.if-is_csv.true) (rw (c.in-Stock.is, c.if-is_csv.true) at c.export.ensures.halted)
+
+pub returns-else-is_csv-clause-halted : goal.returns-else-is_csv-clause-halted
+returns-else-is_csv-clause-halted g c = rw (c.in-Stock.is, c.if-is_csv.false) (rw (c.in-Stock.is, c.if-is_csv.false) at c.report-else-is_csv.ensures.halted)
+
+pub returns-in-Open-clause-halted : goal.returns-in-Open-clause-halted
+returns-in-Open-clause-halted g c = elim c.in-Open.is [
+  | inl is ↦ rw is.1 (rw is.1 at c.report-in-Open.ensures.halted)
+  | inr (inl is) ↦ rw is.2 (rw is.2 at c.report-in-Open.ensures.halted)
+  | inr (inr is) ↦ rw is (rw is at c.report-in-Open.ensures.halted)
+]

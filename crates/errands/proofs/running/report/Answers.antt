@@ -8,4 +8,4 @@ returns-clause-told g c = IfOk-weaker c.tell_report.result _ _ (λ status told. 
 
 pub returns-clause-halted : goal.returns-clause-halted
 returns-clause-halted g c =
-    IfErr-weaker c.tell_report.result _ _ (λ stop halts. halted_by _ _ stop c.in_ok-answer.answer _ c.in_ok-answer.ensures.brought (inr (c.args.shown, refl)) halts) c.tell_report.ensures.halted
+    IfErr-weaker c.tell_report.result _ _ (λ stop halts. halted_by g.C.Courier.brings g.C.Courier.loses stop c.in_ok-answer.answer _ c.in_ok-answer.ensures.brought (inr (c.args.shown, refl)) halts) c.tell_report.ensures.halted

@@ -1,7 +1,8 @@
-use Rattle.std.proofs.Common.{◌≡◌, ◌++◌, ℕ, List, length, map}
+use Rattle.std.proofs.Common.{◌≡◌, ◌++◌, map, string_bytes}
 use Rattle.std.specs.Vec.Iter.{into_iter_items}
 use Rattle.store.specs.Standing.{GoesOn}
-use Rattle.folders.specs.Folders.{became_of, AreTextsTaken}
+use Rattle.folders.specs.Folders.{became_of}
+use Rattle.folders.specs.Handed.{AreFilesHanded, IsHanded}
 use Rattle.folders.proofs.folder.take_names.Given as goal
 
 abbrev pub invariant-loop-name : goal.invariant-loop-name
@@ -11,9 +12,8 @@ invariant-loop-name g l =
     record {
       goes : GoesOn old now;
       shut : old.shut ≡ now.shut;
-      texts : List (List ℕ);
-      taken : AreTextsTaken old now l.fn.moment texts (map (λ file. became_of file.outcome) l.files.items);
-      counted : length l.files.items ≡ length texts;
+      handed : AreFilesHanded (IsHanded (g.R.FileSystem.reads l.fn.rt) (g.R.FileSystem.writes l.fn.rt) l.fn.dir) old now l.fn.moment
+          (map (λ file. string_bytes file.name) l.files.items) (map (λ file. became_of file.outcome) l.files.items);
       each : map (λ file. file.name) l.files.items ++ into_iter_items l.name-iterator ≡ l.fn.names.items;
       told : goal.T-IsAlwaysCallable g l.told;
     }

@@ -5,10 +5,10 @@ use Rattle.running.proofs.from_file.work_from.Goals as goal
 
 pub returns-in-Ok-work_over-clause-done : goal.returns-in-Ok-work_over-clause-done
 returns-in-Ok-work_over-clause-done g c =
-    done_from over_files g.W.Write.contents (image_at g.S.Start) c.in-Ok.database c.in-Ok-work_over.done.1 c.in-Ok.ensures.opened c.in-Ok.ensures.found c.args.job.now
+    done_from over_files g.W.Write.contents (image_at g.S.Start) c.in-Ok.database c.in-Ok-work_over.done.1 c.in-Ok.ensures.opened c.in-Ok.ensures.found c.settle.ensures c.args.job.now
     c.args.out.now c.work_over.new.out c.in-Ok-work_over.done.0 c.in-Ok-work_over.ensures.done
 
 pub returns-in-Err-work_over-clause-stopped : goal.returns-in-Err-work_over-clause-stopped
 returns-in-Err-work_over-clause-stopped g c =
-    stopped_from over_files g.W.Write.contents (image_at g.S.Start) c.in-Ok.database c.in-Err-work_over.left c.in-Ok.ensures.opened c.in-Ok.ensures.found c.args.job.now
+    stopped_from over_files g.W.Write.contents (image_at g.S.Start) c.in-Ok.database c.in-Err-work_over.left c.in-Ok.ensures.opened c.in-Ok.ensures.found c.settle.ensures c.args.job.now
     c.args.out.now c.work_over.new.out c.in-Err-work_over.stop c.in-Err-work_over.ensures.stopped

@@ -1,0 +1,56 @@
+//! What is outside of the program: folders and files.
+use std::io;
+
+/// An entry of a folder.
+#[derive(Drop)]
+pub struct FolderEntry {
+    /// Its name; None where that isn't UTF-8, since a path is text.
+    pub name: Option<String>,
+    /// Whether it is a regular file or a link to one.
+    pub is_file: bool,
+}
+
+/// The folders and files outside of the program. Each call may fail, and says with which error.
+/// What a system has in them no contract knows, so of a system these relations say nothing; whoever
+/// reads or writes through this trait keeps to them, whatever they are.
+pub trait FileSystem {
+    ghost use Rattle.std.specs.Prelude.{◌≡◌, ℕ, ⊤, List, false, IfOk, IfErr, OnOk};
+    ghost use Rattle.std.specs.IoError.{error_kind};
+    ghost use Rattle.std.specs.declared.io.ErrorKind.{ErrorKind};
+    ghost use Rattle.folders.specs.Passing.{is_interchange};
+    ghost use Rattle.folders.specs.declared.file_system.FolderEntry.{FolderEntry};
+
+    // Relates it, the path of a folder, and the entries that the folder has.
+    ghost lists: { Self → List ℕ → List FolderEntry → Type 0 } = { λ _ _ _. ⊤ };
+
+    // Relates it, the path of a file, a number, and the first bytes of the file, so many where it
+    // has so many, and else all.
+    ghost reads: { Self → List ℕ → ℕ → List ℕ → Type 0 } = { λ _ _ _ _. ⊤ };
+
+    // Relates it, a path, and the bytes that a file of its own has there, since they were written.
+    ghost writes: { Self → List ℕ → List ℕ → Type 0 } = { λ _ _ _. ⊤ };
+
+    // Relates it, the path that a call was about, and the kind of error with which it failed.
+    ghost fails: { Self → List ℕ → ErrorKind → Type 0 } = { λ _ _ _. ⊤ };
+
+    /// The entries of a folder, all of them. Fails where one can't be read.
+    fn entries(&self, dir: &str) -> io::Result<Vec<FolderEntry>>
+        ensures listed { IfOk result (λ entries. lists self.now dir.now entries.items) }
+        ensures failed { IfErr result (λ error. fails self.now dir.now (error_kind error)) };
+
+    /// The first bytes of a file, `most` of them where it has so many; no more than these are read.
+    fn first_bytes(&self, path: &str, most: u64) -> io::Result<Vec<u8>>
+        ensures read { IfOk result (λ bytes. reads self.now path.now most bytes.items) }
+        ensures failed { IfErr result (λ error. fails self.now path.now (error_kind error)) };
+
+    /// Writes a file of its own under a path, in place of what stands there. It is written under
+    /// the path `made` first, down to the disk, and then renamed: so no link is followed, and a
+    /// stop at any place leaves what was there or the whole new file. What an earlier stop left
+    /// under `made` is removed. No interchange is ever written over: neither path is that of one.
+    fn replace(&self, made: &str, path: &str, bytes: &[u8]) -> io::Result<()>
+        requires made { is_interchange made.now ≡ false }
+        requires path { is_interchange path.now ≡ false }
+
+        ensures written { OnOk result (writes self.now path.now bytes.now) }
+        ensures failed { IfErr result (λ error. fails self.now path.now (error_kind error)) };
+}

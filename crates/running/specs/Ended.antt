@@ -1,0 +1,101 @@
+-- How a line of words ended, from what the files of its book held.
+use Rattle.std.specs.Prelude.{◌≡◌, ◌⊎◌, ℕ, true, List, Option, Some, Result, Ok, Err, OnOk, map}
+use Rattle.std.specs.Borrow.{Bor}
+use Rattle.sqlite_disk.specs.declared.Disk.{Ghosts as Disks}
+use Rattle.sqlite.specs.Recovery.{Image}
+use Rattle.store.specs.Refusal.{Refusal}
+use Rattle.command_line.specs.Asked.{IsLineRead}
+use Rattle.command_line.specs.declared.words.Place.TheVariants.{Program}
+use Rattle.command_line.specs.declared.words.Task.{Task}
+use Rattle.command_line.specs.declared.words.Words.{Words}
+use Rattle.command_line.specs.declared.words.Words.TheVariants as words
+use Rattle.commands.specs.Acting.{Ending}
+use Rattle.commands.specs.Files.{reads_any}
+use Rattle.commands.specs.Statuses.{code_of, status_of_stop}
+use Rattle.commands.specs.Stops.{HasDeviceFault, fault_in}
+use Rattle.commands.specs.declared.told.ExitStatus.{ExitStatus}
+use Rattle.running.specs.Explaining.{AsksWhy}
+use Rattle.running.specs.Faults.{is_in_use}
+use Rattle.running.specs.FileEnds.{IsRunEnd}
+use Rattle.running.specs.Working.{IsJobFor, IsNoJobFor}
+use Rattle.running.specs.declared.from_file.FilesLeft.{FilesLeft}
+use Rattle.running.specs.declared.from_file.FilesLeft.TheVariants as left
+use Rattle.running.specs.declared.over_file.Job.{Job}
+
+-- the same status, or the same fault, whatever is said of it
+abbrev pub IsToldAs : Ending → Ending → Type 0
+IsToldAs (Ok status) (Ok told) = told ≡ status
+IsToldAs (Err stop) (Err told) = fault_in told ≡ fault_in stop
+IsToldAs first other = ⊥
+
+-- the exit status of an ending
+abbrev pub status_of_ending : Ending → ExitStatus
+status_of_ending (Ok status) = status
+status_of_ending (Err stop) = status_of_stop stop
+
+module _ {D : Type 0} {disk : Disks D} where
+  -- the files weren't opened, since somebody else has them open
+  abbrev pub IsBusy : FilesLeft D disk → Type 0
+  IsBusy (left.Unopened error leftover) = is_in_use error ≡ true
+  IsBusy files = ⊥
+
+  module _ {W : Type 0} (contents : W → Option (List ℕ)) (image : Image) where
+    -- the job was run over the files once, and its ending is told
+    pub record IsRunOnce
+        (j : Job) (before later : W) (ending : Ending) (files : FilesLeft D disk) : Type 0 where
+      pub first : Ending
+      pub told : IsToldAs first ending
+      pub run : IsRunEnd contents image j before later first files
+
+    -- the files weren't opened, for a fault of a device or for want of memory, and nothing is
+    -- printed; or the job was run over them
+    abbrev pub IsJobEnded : Job → W → W → Ending → FilesLeft D disk → Type 0
+    IsJobEnded j before later (Err stop) left.Untouched = (later ≡ before) × HasDeviceFault stop
+    IsJobEnded j before later ending files = IsRunOnce j before later ending files
+
+    -- the job that a line asks for ended so
+    pub record HasJobEnded
+        (t : Task) (before later : W) (ending : Ending) (files : FilesLeft D disk) : Type 0 where
+      pub asked : Job
+      pub for : IsJobFor reads_any t asked
+      pub ended : IsJobEnded asked before later ending files
+
+    -- it wasn't made ready: it is refused, or a fault came first, and nothing is printed
+    pub record IsNoJob
+        (t : Task) (before later : W) (ending : Ending) (files : FilesLeft D disk) : Type 0 where
+      pub untouched : files ≡ left.Untouched
+      pub printed : later ≡ before
+      pub why : OnOk ending ((refusal : Refusal) × IsNoJobFor reads_any t refusal)
+
+    abbrev pub IsTaskEnded : Task → W → W → Ending → FilesLeft D disk → Type 0
+    IsTaskEnded t before later ending files = HasJobEnded t before later ending files
+        ⊎ IsNoJob t before later ending files
+
+    -- what words of a line over a book in its file came to; others open no book
+    abbrev pub IsWordsEnded : Words → W → W → Ending → FilesLeft D disk → Type 0
+    IsWordsEnded (words.Over (Some file) wait task) before later ending files =
+        IsTaskEnded task before later ending files
+    IsWordsEnded other before later ending files = files ≡ left.Untouched
+
+    -- the words of a line were read, and this came of them
+    pub record HasLineEnded
+        (said : List (Bor (List ℕ))) (before later : W) (ending : Ending)
+        (files : FilesLeft D disk) : Type 0 where
+      pub asked : Words
+      pub read : IsLineRead Program (map (λ w. w.now) said) asked
+      pub ended : IsWordsEnded asked before later ending files
+
+    -- what a line came to; one that can't be read, or asks for help, opens no book
+    abbrev pub IsLineEnded : List (Bor (List ℕ)) → W → W → Ending → FilesLeft D disk → Type 0
+    IsLineEnded said before later ending files = HasLineEnded said before later ending files
+        ⊎ (files ≡ left.Untouched)
+
+    -- what a line of the program came to, with its exit status; its last word may ask for why
+    pub record IsProgramRun
+        (said : List (Bor (List ℕ))) (before later : W) (code : ℕ) (files : FilesLeft D disk)
+        : Type 0 where
+      pub line : List (Bor (List ℕ))
+      pub is_line : (line ≡ said) ⊎ AsksWhy said line
+      pub ending : Ending
+      pub ended : IsLineEnded line before later ending files
+      pub says : code ≡ code_of (status_of_ending ending)
