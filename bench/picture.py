@@ -24,7 +24,7 @@ RUN = {
 PICTURE = f"{TOP}/docs/architecture.svg"
 WIDTH, HEIGHT = 900, 692
 # The layers, from the lowest to the highest: a title, some words about it, the left edge, the top
-# and the width of its band, and its crates, row by row.
+# and the width of its band, and its crates, row by row; `-` leaves a place free.
 Layer = namedtuple("Layer", "title about left top width rows")
 LAYERS = [
     Layer("Definitions", "what contracts cite, and worked examples", 16, 608, 868, ["profile"]),
@@ -36,8 +36,8 @@ LAYERS = [
     Layer("SQLite", "the book in tables", 430, 290, 330,
           ["books book_tables ram_disk", "book_transactions book_statements"]),
     Layer("Edges", "what comes in, and what people see", 158, 98, 442,
-          ["commands command_line errands", "folders reports sheet_texts",
-           "intake fields gauges"]),
+          ["commands command_line errands -", "folders reports sheet_texts -",
+           "intake doors fields gauges"]),
     Layer("The program", "one line of words, run", 158, 16, 286, ["running whx12"]),
     Layer("Tests", "", 456, 16, 428, ["cases test_calls test_program"]),
 ]
@@ -47,7 +47,7 @@ SOURCES = ["words, a file", "a folder", "a socket"]
 # Ways in pairs, there and back: the line between the two, and what stands beside them.
 Pair = namedtuple("Pair", "start end there back")
 PATHS = [
-    Pair((272, 240), (272, 314), "submit", "Reply"),
+    Pair((262, 240), (262, 314), "submit", "Reply"),
     Pair((272, 346), (272, 446), "decide", "Decision"),
     Pair((272, 478), (272, 526), "text", "answer"),
     Pair((302, 330), (444, 330), "load, commit", "Page, Known"),
@@ -71,7 +71,7 @@ def layers_of():
     """The number of each crate's layer."""
     found = {}
     for number, layer in enumerate(LAYERS, 1):
-        for name in " ".join(layer.rows).split():
+        for name in " ".join(layer.rows).replace("-", "").split():
             if name in found:
                 raise Wrong(f"{name} has two layers")
             found[name] = number
@@ -126,6 +126,8 @@ def boxes(layer):
         width = (layer.width - 2 * SIDE - GAP * (len(names) - 1)) // len(names)
         top = layer.top + HEAD + ROW * row
         for at, name in enumerate(names):
+            if name == "-":
+                continue
             left = layer.left + SIDE + at * (width + GAP)
             fill, edge = (TINT, BLUE) if name in ON_THE_WAY else ("#ffffff", "#9aa5b1")
             drawn += [rect(left, top, width, BOX, fill, edge, 4),
@@ -144,7 +146,7 @@ def band(number, layer):
 
 def sources():
     """Where commands come from, beside the crates that take them."""
-    drawn = [rect(166, 118, 142, 122, "none", BLUE)]
+    drawn = [rect(166, 118, 106, 122, "none", BLUE)]
     for row, words in enumerate(SOURCES):
         top = 98 + HEAD + ROW * row
         drawn += [rect(16, top, 100, BOX, "#ffffff", PALE, 16), text(66, top + 21, words, "plain"),

@@ -43,8 +43,8 @@ AT = "2025-03-04T09:15"
 # whether clerks are served
 CLERKS = "--clerks" in sys.argv
 TOKEN = rb"[!#$%&'*+\-.^_`|~0-9A-Za-z]+"
-PHRASES = {200: b"OK", 204: b"No Content", 400: b"Bad Request", 404: b"Not Found", 405: b"Method Not Allowed", 409: b"Conflict", 411: b"Length Required",
-           413: b"Payload Too Large", 422: b"Unprocessable Entity", 501: b"Not Implemented"}
+PHRASES = {200: b"OK", 204: b"No Content", 400: b"Bad Request", 403: b"Forbidden", 404: b"Not Found", 405: b"Method Not Allowed", 409: b"Conflict", 411: b"Length Required",
+           413: b"Payload Too Large", 421: b"Misdirected Request", 422: b"Unprocessable Entity", 501: b"Not Implemented"}
 
 
 def split_head(raw):
@@ -110,6 +110,43 @@ def called(parts):
 POSTED = ("x12", "deed")
 
 
+# fields that say whether a browser sends a request, and for which page
+DECIDING = (b"host", b"origin", b"sec-fetch-site", b"sec-fetch-mode", b"content-type")
+FORMS = (b"text/plain", b"multipart/form-data", b"application/x-www-form-urlencoded")
+
+
+def is_own_host(value):
+    """Whether a Host is an address in digits or localhost, with a port or without."""
+    if value.startswith(b"["):
+        return re.fullmatch(rb"\[(?=[^\]]*:)[0-9A-Fa-f:.]*\](:[0-9]{1,5})?", value) is not None
+    found = re.fullmatch(rb"([^:]*)(:[0-9]{1,5})?", value)
+    if found is None:
+        return False
+    name = found.group(1).lower()
+    digits = re.fullmatch(rb"[0-9]{1,3}(\.[0-9]{1,3}){3}", name)
+    return name == b"localhost" or (digits is not None and all(int(part) <= 255 for part in name.split(b".")))
+
+
+def barred(method, fields):
+    """The status by which a request that a browser may send for somebody else's page is turned away, or None."""
+    of = {}
+    for name in DECIDING:
+        values = [value for it, value in fields if it == name]
+        if len(values) > 1:
+            return 400
+        of[name] = values[0] if values else None
+    host, origin, site, mode, kind = (of[name] for name in DECIDING)
+    if host is not None and not is_own_host(host):
+        return 421
+    if origin is not None and (host is None or origin.partition(b"://")[0] not in (b"http", b"https")
+                               or origin.partition(b"://")[2].lower() != host.lower()):
+        return 403
+    if site is not None and site not in (b"same-origin", b"none"):
+        return 403
+    is_form = kind is not None and kind.partition(b";")[0].strip(b" \t").lower() in FORMS
+    return 403 if method == b"POST" and (origin is not None or mode is not None) and is_form else None
+
+
 def read(raw):
     """What a request asks for: ("status", code), ("x12", body) or (route, parts); with the codes that may come beside it."""
     head, is_bad = split_head(raw)
@@ -118,6 +155,8 @@ def read(raw):
     method, path, fields, rest, length = head
     if length > 8192 or len(fields) > 32:
         return ("status", 400), True
+    if turned := barred(method, fields):
+        return ("status", turned), True
     if any(name == b"transfer-encoding" for name, _ in fields):
         return ("status", 501), True
     route = routed(path)
@@ -254,9 +293,14 @@ class Requests(compare.Day):
         if r.random() < 0.8:
             method = b"POST" if path == b"/x12" or deed else b"GET"
         body = self.sheet(deed) if deed else self.body() if path == b"/x12" or r.random() < 0.1 else b""
-        fields = [b"Host: localhost"] + (self.lengths(body) if body or r.random() < 0.1 else [])
+        host = r.choice([b"Host: localhost"] * 20 + [b"host: LocalHost:8080", b"Host: 127.0.0.1:80", b"Host: [::1]:8080", b"Host: [::1]", b"Host: evil.example",
+                                                     b"Host: localhost.evil.example", b"Host: evil.localhost", b"Host: 127.0.0.1.evil.example", b"Host: 127.0.0.256",
+                                                     b"Host: localhost:", b"Host: localhost:123456", b"Host:", b"Host: :8080", b"X: no Host"])
+        fields = [host] + (self.lengths(body) if body or r.random() < 0.1 else [])
         for _ in range(r.choice([0, 0, 0, 1, 2, 28, 30, 31, 32, 40])):
             fields.append(r.choice([b"Accept: */*", b"X-A: b", b"Expect: 100-continue", b"Connection: keep-alive"]))
+        if r.random() < 0.15:
+            fields += self.browsers()
         if r.random() < 0.03:
             fields.append(r.choice([b"Transfer-Encoding: chunked", b"transfer-encoding: identity", b"X: " + b"a" * 8200, b": x", b"A B: c", b" folded", b"X-\x80: 1", b"X: \x80"]))
         r.shuffle(fields)
@@ -265,6 +309,18 @@ class Requests(compare.Day):
         if r.random() < 0.35:
             raw = self.bent(raw)
         return raw + (b"GET /x12 HTTP/1.1\r\n\r\n" if r.random() < 0.03 else b"")
+
+    def browsers(self):
+        """Fields that browsers send, of this server's pages and of others'."""
+        r = self.r
+        some = [r.choice([b"Origin: http://localhost", b"Origin: http://localhost", b"Origin: null", b"Origin: https://evil.example", b"origin: HTTP://localhost",
+                          b"Origin: https://LOCALHOST", b"Origin: http://localhost.evil.example"]),
+                r.choice([b"Sec-Fetch-Site: same-origin", b"Sec-Fetch-Site: none", b"Sec-Fetch-Site: cross-site", b"sec-fetch-site: same-site", b"Sec-Fetch-Site: None"]),
+                r.choice([b"Sec-Fetch-Mode: cors", b"Sec-Fetch-Mode: navigate"]),
+                r.choice([b"Content-Type: text/plain", b"Content-Type: Text/Plain ; charset=utf-8", b"Content-Type: multipart/form-data; boundary=x",
+                          b"content-type: application/x-www-form-urlencoded", b"Content-Type: application/EDI-X12", b"Content-Type: text/plainer"]),
+                r.choice([b"Host: localhost", b"Host: localhost", b"Host: evil.example"])]
+        return r.sample(some, r.choice([1, 1, 1, 2, 3]))
 
     def clerk_path(self, deed):
         r = self.r

@@ -10,8 +10,8 @@ interchanges of one line (an advice and an order in turn) are given to the progr
 given again, when all are known; bench/statements.c runs the same statements, a transaction for each.
 `strace` counts each process's calls that sync a file or write into one, and the bytes they write; what
 goes to a terminal isn't counted. What a process without commands does is taken off: its opening and,
-where the log is copied into the file at the end, its closing. Status 1 where a commit isn't synced once,
-or where the known ones write.
+where the log is copied into the file at the end, its closing. The same is done with `--wary`. Status 1
+where a commit isn't synced once, or with `--wary` twice, or where the known ones write.
 """
 import os
 import re
@@ -57,14 +57,14 @@ def a_commit(run, without):
     return [(mine - other) / books.COMMANDS for mine, other in zip(run, without)]
 
 
-def of_program(program, book, work, folder):
+def of_program(program, book, work, folder, *flags):
     work.folder(f"{folder}/files")
     at = books.AT[1]
     sends = costs.lines_into(f"{folder}/sends", [f"send {folder}/files/{place:04d}.x12 --at {at}" for place in range(books.COMMANDS)])
     looks = costs.lines_into(f"{folder}/looks", ["stock ZZ-NONE"])
     path = books.copied(book, folder, "batch.book")
-    none = counted([program, "batch", looks, "--book", path], 1, folder)
-    new, known = (counted([program, "batch", sends, "--book", path], 0, folder) for _ in range(2))
+    none = counted([program, "batch", looks, "--book", path, *flags], 1, folder)
+    new, known = (counted([program, "batch", sends, "--book", path, *flags], 0, folder) for _ in range(2))
     return a_commit(new, none), a_commit(known, none)
 
 
@@ -81,7 +81,7 @@ def main(words):
     program = program_in(words)
     wrong = False
     figure("load", os.getloadavg()[0], "running")
-    print(" entries depositors | whx12, new: syncs writes  bytes | known | C, new: syncs writes  bytes")
+    print(" entries depositors | whx12, new: syncs writes  bytes | --wary | known | C, new: syncs writes  bytes")
     for depositors in (1, 100):
         for entries in (size for size in SIZES if size <= largest):
             with tempfile.TemporaryDirectory(prefix="whx12-syncs-") as folder:
@@ -90,13 +90,15 @@ def main(words):
                 books.make(program, book, made)
                 work = books.Work(made)
                 new, known = of_program(program, book, work, folder)
+                os.mkdir(f"{folder}/wary")
+                wary, _ = of_program(program, book, work, f"{folder}/wary", "--wary")
                 theirs = of_sqlite(statements, book, work, folder)
-            ours = f"{new[0]:17.2f} {new[1]:6.1f} {new[2]:6.0f} | {known[1]:5.1f}"
+            ours = f"{new[0]:17.2f} {new[1]:6.1f} {new[2]:6.0f} | {wary[0]:6.2f} | {known[1]:5.1f}"
             print(f"{entries:8,d} {depositors:10d} | {ours} | {theirs[0]:13.2f} {theirs[1]:6.1f} {theirs[2]:6.0f}", flush=True)
-            for whose, (syncs, _, size) in (("", new), ("C SQLite, ", theirs)):
+            for whose, (syncs, _, size) in (("", new), ("--wary, ", wary), ("C SQLite, ", theirs)):
                 figure(books.sized(f"{whose}syncs of a new command", depositors, entries), syncs, "syncs")
                 figure(books.sized(f"{whose}bytes written by a new command", depositors, entries), size / 1000, "KB")
-            wrong = wrong or new[0] < 1 or any(known)
+            wrong = wrong or new[0] < 1 or wary[0] < 2 or any(known)
     return int(wrong)
 
 

@@ -37,9 +37,10 @@ of_the_program =
     ∷ (codes "pick" ∷ codes "ZZ-ACME" ∷ codes "T1" ∷ codes "ORD1" ∷ codes "one.sheet"
     ∷ codes "--server" ∷ codes "127.0.0.1:8080" ∷ [])
     ∷ (codes "serve" ∷ codes "--listen" ∷ codes "127.0.0.1:8080" ∷ codes "--count" ∷ codes "7"
-    ∷ codes "--book" ∷ codes "harbor.book" ∷ codes "--clerks" ∷ [])
+    ∷ codes "--book" ∷ codes "harbor.book" ∷ codes "--clerks" ∷ codes "--host" ∷ codes "dock.example" ∷ [])
     ∷ (codes "batch" ∷ codes "day.txt" ∷ codes "--book" ∷ codes "harbor.book" ∷ [])
-    ∷ (codes "verify" ∷ codes "--book" ∷ codes "harbor.book" ∷ []) ∷ []
+    ∷ (codes "verify" ∷ codes "--book" ∷ codes "harbor.book" ∷ [])
+    ∷ (codes "verify" ∷ codes "--wary" ∷ codes "--book" ∷ codes "harbor.book" ∷ []) ∷ []
 
 abbrev not_of_the_program : List (List Text)
 not_of_the_program =
@@ -48,7 +49,8 @@ not_of_the_program =
     ∷ (codes "script" ∷ codes "day.txt" ∷ codes "--book" ∷ codes "harbor.book" ∷ [])
     ∷ (codes "serve" ∷ codes "--listen" ∷ codes "127.0.0.1:8080" ∷ codes "--book"
     ∷ codes "harbor.book" ∷ [])
-    ∷ (codes "verify" ∷ codes "--book" ∷ []) ∷ []
+    ∷ (codes "verify" ∷ codes "--book" ∷ [])
+    ∷ (codes "script" ∷ codes "day.txt" ∷ codes "--wary" ∷ []) ∷ []
 
 lines_are_taken : list_all (takes (app_at Script)) in_a_script ≡ true
 unfolding clap_on_literals

@@ -13,6 +13,7 @@ use Rattle.profile.specs.Moments.{Moment}
 use Rattle.command_line.specs.Written.{moment_of, number_of, count_of, wait_of}
 use Rattle.command_line.specs.declared.words.Place.{Place}
 use Rattle.command_line.specs.declared.words.Place.TheVariants as place
+use Rattle.command_line.specs.declared.words.Opening.{Opening}
 use Rattle.command_line.specs.declared.words.Words.{Words}
 use Rattle.command_line.specs.declared.words.Words.TheVariants as words
 use Rattle.command_line.specs.declared.words.Task.{Task}
@@ -117,10 +118,14 @@ MayListen rows address = IsLoopback address ⊎ IsTrue (has_flag rows (codes "an
 abbrev pub IsGuarded : List Row → SocketAddr → Type 0
 IsGuarded rows address = SaysAddress rows (codes "listen") address × MayListen rows address
 
+-- these are the names by which the line says that the server may be called, or it says none
+abbrev pub SaysHosts : List Row → Option (Bor Text) → Type 0
+SaysHosts rows hosts = first_of (codes "host") rows ≡ option_map (λ b. b.now) hosts
+
 abbrev pub SaysService : List Row → Service → Type 0
 SaysService rows s = IsGuarded rows s.address
     × SaysCount rows s.count × SaysPatience rows s.patience
-    × (s.clerks ≡ has_flag rows (codes "clerks"))
+    × (s.clerks ≡ has_flag rows (codes "clerks")) × SaysHosts rows s.hosts
 
 abbrev pub SaysTask : Found → Task → Type 0
 SaysTask f (task.Init who) = (f.0 ≡ codes "init") × Has f.1 (codes "who") who.now
@@ -142,6 +147,11 @@ SaysBook rows book = first_of (codes "book") rows ≡ option_map (λ b. b.now) b
 abbrev pub SaysWait : List Row → Option ℕ → Type 0
 SaysWait rows seconds = option_map wait_of (first_of (codes "wait") rows) ≡ option_map Some seconds
 
+-- how the line says that the file with its book is opened
+abbrev pub SaysOpening : List Row → Opening → Type 0
+SaysOpening rows opening = SaysWait rows opening.wait
+    × (opening.is_wary ≡ has_flag rows (codes "wary"))
+
 -- a line of the program names a book, where it asks no server; a script has its own
 abbrev pub has_book : Place → Option (Bor Text) → Bool
 has_book place.Program book = is_some book
@@ -156,10 +166,10 @@ abbrev pub SaysServer : List Row → Option SocketAddr → Type 0
 SaysServer rows (Some address) = SaysAddress rows (codes "server") address
 SaysServer rows None = Lacks rows (codes "server")
 
--- the book is the server's, and so are the moment and how long a book is waited for
+-- the book is the server's, and so are the moment and how the book is opened
 abbrev pub LeavesToServer : List Row → Type 0
 LeavesToServer rows = Lacks rows (codes "book") × Lacks rows (codes "at")
-    × Lacks rows (codes "wait")
+    × Lacks rows (codes "wait") × (has_flag rows (codes "wary") ≡ false)
 
 -- the subcommands that a running server may be asked for
 abbrev pub takes_server : Text → Bool
@@ -173,9 +183,9 @@ takes_server name = bytes_eq name (codes "send")
 -- the line, at this place, asks for this
 abbrev pub Says : Place → Found → Words → Type 0
 Says p f (words.Script file) = (f.0 ≡ codes "script") × Has f.1 (codes "file") file.now
-Says p f (words.Over book wait t) = SaysBook f.1 book × (has_book p book ≡ true)
+Says p f (words.Over book opening t) = SaysBook f.1 book × (has_book p book ≡ true)
     × SaysServer f.1 None
-    × SaysWait f.1 wait × ReadsMoment f.1 × SaysTask f t
+    × SaysOpening f.1 opening × ReadsMoment f.1 × SaysTask f t
 Says p f (words.Remote server t) = SaysServer f.1 (Some server) × LeavesToServer f.1
     × (takes_server f.0 ≡ true) × SaysTask f t
 
@@ -204,8 +214,8 @@ ReadsNumber rows = (number : Option ℕ) × SaysNumber rows number
 abbrev pub ReadsBook : Place → List Row → Type 0
 ReadsBook p rows = (book : Option (Bor Text)) × NamesBook p rows book
 
-abbrev pub ReadsWait : List Row → Type 0
-ReadsWait rows = (seconds : Option ℕ) × SaysWait rows seconds
+abbrev pub ReadsOpening : List Row → Type 0
+ReadsOpening rows = (opening : Opening) × SaysOpening rows opening
 
 -- what must be there is there
 abbrev pub HasWanted : List Row → List Rule → Type 0
@@ -226,7 +236,7 @@ SaysPart f (task.Show s) = SaysShow f s
 SaysPart f _ = ⊥
 
 abbrev pub AsksOver : Place → Found → Type 0
-AsksOver p f = ReadsBook p f.1 × ReadsWait f.1 × ReadsMoment f.1 × Asks f
+AsksOver p f = ReadsBook p f.1 × ReadsOpening f.1 × ReadsMoment f.1 × Asks f
 
 abbrev pub AsksServer : Found → Type 0
 AsksServer f = LeavesToServer f.1 × (takes_server f.0 ≡ true) × Asks f

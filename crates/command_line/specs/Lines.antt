@@ -93,8 +93,8 @@ depositors_shape = subcommand (codes "depositors") (at_rule ∷ [])
 
 abbrev pub serve_shape : Shape
 serve_shape = subcommand (codes "serve") (wanted_rule (codes "listen") ∷ wanted_rule (codes "count")
-    ∷ option_rule (codes "patience") ∷ flag_rule (codes "anyone") ∷ flag_rule (codes "clerks")
-    ∷ at_rule ∷ [])
+    ∷ option_rule (codes "patience") ∷ option_rule (codes "host") ∷ flag_rule (codes "anyone")
+    ∷ flag_rule (codes "clerks") ∷ at_rule ∷ [])
 
 abbrev pub verify_shape : Shape
 verify_shape = subcommand (codes "verify") (at_rule ∷ [])
@@ -103,17 +103,18 @@ verify_shape = subcommand (codes "verify") (at_rule ∷ [])
 abbrev pub and_rule : Shape → Rule → Shape
 and_rule s r = record s { rules = s.rules ++ r ∷ [] }
 
--- a subcommand over a book, which may be told how long to wait for one that is in use
-abbrev pub may_wait : Shape → Shape
-may_wait s = and_rule s (option_rule (codes "wait"))
+-- a subcommand over the book in a file, which may be told how this is opened: how long to wait for
+-- one that is in use, and to suppose nothing of its disk
+abbrev pub with_opening : Shape → Shape
+with_opening s = and_rule (and_rule s (option_rule (codes "wait"))) (flag_rule (codes "wary"))
 
 -- a subcommand over the book in a file
 abbrev pub over_book : Shape → Shape
-over_book s = may_wait (and_rule s (wanted_rule (codes "book")))
+over_book s = with_opening (and_rule s (wanted_rule (codes "book")))
 
 -- a subcommand over the book in a file, or over that of a running server
 abbrev pub over_either : Shape → Shape
-over_either s = and_rule (may_wait (and_rule s (option_rule (codes "book"))))
+over_either s = and_rule (with_opening (and_rule s (option_rule (codes "book"))))
     (option_rule (codes "server"))
 
 -- a subcommand over the book in a file, as it stands at a place: a script has a book of its own

@@ -224,15 +224,16 @@ pub(crate) fn join<'a>(
 // What the help says of the file of a book.
 const BOOK_HELP: &str = "The file with the book";
 
-// With how long a book that is in use is waited for.
-fn with_wait<'a>(
+// With how the file of the book is opened: how long it is waited for while it is in use, and
+// whether anything is supposed of its disk.
+fn with_opening<'a>(
     alloc: Global,
     command: Result<Command<'a>, AllocError>,
 ) -> Result<Command<'a>, AllocError>
     ensures { (s : Shape) → IfOk command.entry (IsCommand s)
-        → IfOk result (IsCommand (meant.may_wait s)) }
+        → IfOk result (IsCommand (meant.with_opening s)) }
 {
-    with(
+    let command = with(
         command,
         option(
             alloc,
@@ -240,10 +241,18 @@ fn with_wait<'a>(
             "SECONDS",
             "How long a book that is in use is waited for [default: 5]",
         ),
+    );
+    with(
+        command,
+        flag(
+            alloc,
+            "wary",
+            "Supposes nothing of what a power failure leaves of a write; each commit takes longer",
+        ),
     )
 }
 
-// With the file of the book, and how long it is waited for.
+// With the file of the book, and how it is opened.
 fn with_book<'a>(
     alloc: Global,
     command: Result<Command<'a>, AllocError>,
@@ -252,11 +261,10 @@ fn with_book<'a>(
         → IfOk result (IsCommand (meant.over_book s)) }
 {
     let command = with(command, wanted(alloc, "book", "BOOK", BOOK_HELP));
-    with_wait(alloc, command)
+    with_opening(alloc, command)
 }
 
-// With the file of the book and how long it is waited for, or the address of a server that has the
-// book.
+// With the file of the book and how it is opened, or the address of a server that has the book.
 fn with_either<'a>(
     alloc: Global,
     command: Result<Command<'a>, AllocError>,
@@ -265,7 +273,7 @@ fn with_either<'a>(
         → IfOk result (IsCommand (meant.over_either s)) }
 {
     let command = with(command, option(alloc, "book", "BOOK", BOOK_HELP));
-    let command = with_wait(alloc, command);
+    let command = with_opening(alloc, command);
     with(
         command,
         option(

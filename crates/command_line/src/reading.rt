@@ -7,7 +7,7 @@ ghost use Rattle.command_line.specs.Asked as meant;
 
 use crate::subcommands::parser;
 use crate::values::{
-    book_of, given, has_flag, leaves_to_server, moment, number, server, service_of, usage, wait,
+    book_of, given, has_flag, leaves_to_server, moment, number, opening, server, service_of, usage,
 };
 use crate::words::{BookAct, ClerkWords, LineFault, Place, Show, Task, Words};
 use clap::ArgMatches;
@@ -232,7 +232,7 @@ fn over<'a>(
 {
     Ok(Words::Over {
         book: book_of(alloc, place, values)?,
-        wait: wait(alloc, values)?,
+        opening: opening(alloc, values)?,
         task: task_of(alloc, name, values)?,
     })
 }

@@ -172,7 +172,7 @@ fn serve_wanted<'a>(alloc: Global) -> Result<Command<'a>, AllocError>
         alloc,
         "serve",
         "Serves the book over HTTP, one connection after the other",
-        "whx12 serve --listen ADDR --count N [--patience SECONDS] [--anyone] [--clerks] --book BOOK [--at MOMENT]",
+        "whx12 serve --listen ADDR --count N [--patience SECONDS] [--host NAMES] [--anyone] [--clerks] --book BOOK [--at MOMENT]",
         "Example: whx12 serve --book harbor.book --listen 127.0.0.1:8080 --count 1000\n\nA depositor posts its interchanges to /x12. GET /stock/ZZ-ACME shows stock, /outbox/ZZ-ACME what went out. Printed is the\nstatus of each response, or: fault 44 Device. While it serves, no other command can open the book; where it\nhas --clerks, those with --server ask it instead.",
         wanted(
             alloc,
@@ -203,6 +203,15 @@ fn serve<'a>(alloc: Global) -> Result<Command<'a>, AllocError>
             "patience",
             "SECONDS",
             "How long a request is waited for, and its response [default: 30]",
+        ),
+    );
+    let command = with(
+        command,
+        option(
+            alloc,
+            "host",
+            "NAMES",
+            "The names by which it is asked beside localhost and its address, with commas between them",
         ),
     );
     let command = with(

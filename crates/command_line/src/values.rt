@@ -7,7 +7,7 @@ ghost use Rattle.command_line.specs.Asked as meant;
 
 use crate::moments::moment_of;
 use crate::numbers::{count_of, number_of, wait_of};
-use crate::words::{LineFault, Place, Service};
+use crate::words::{LineFault, Opening, Place, Service};
 use clap::ArgMatches;
 use segments::Moment;
 use std::alloc::Global;
@@ -131,8 +131,18 @@ fn guarded_address(alloc: Global, values: &ArgMatches<'_>) -> Result<SocketAddr,
     ))
 }
 
+// The names by which a request may call the server, if a line says any.
+fn hosts_of<'a>(values: &ArgMatches<'a>) -> Option<&'a str>
+    ensures { meant.SaysHosts (rows_of (found_of values.now)) result }
+{
+    values.get_str("host")
+}
+
 /// Where a line says that a book is served, and for how long.
-pub(crate) fn service_of(alloc: Global, values: &ArgMatches<'_>) -> Result<Service, LineFault>
+pub(crate) fn service_of<'a>(
+    alloc: Global,
+    values: &ArgMatches<'a>,
+) -> Result<Service<'a>, LineFault>
     ensures { meant.Reads (meant.SaysService (rows_of (found_of values.now))) result }
 {
     Ok(Service {
@@ -140,6 +150,7 @@ pub(crate) fn service_of(alloc: Global, values: &ArgMatches<'_>) -> Result<Servi
         count: connections(alloc, values)?,
         patience: patience(alloc, values)?,
         clerks: has_flag(values, "clerks"),
+        hosts: hosts_of(values),
     })
 }
 
@@ -189,8 +200,8 @@ pub(crate) fn book_of<'a>(
     Ok(Some(book))
 }
 
-/// For how many seconds a line says that a book in use is waited for, if it says it.
-pub(crate) fn wait(alloc: Global, values: &ArgMatches<'_>) -> Result<Option<u16>, LineFault>
+// For how many seconds a line says that a book in use is waited for, if it says it.
+fn wait(alloc: Global, values: &ArgMatches<'_>) -> Result<Option<u16>, LineFault>
     ensures { meant.Reads (meant.SaysWait (rows_of (found_of values.now))) result }
 {
     let Some(text) = values.get_str("wait") else {
@@ -200,6 +211,16 @@ pub(crate) fn wait(alloc: Global, values: &ArgMatches<'_>) -> Result<Option<u16>
         Some(seconds) => Ok(Some(seconds)),
         None => Err(usage(alloc, "--wait wants a number of seconds from 0 to 65535\n")),
     }
+}
+
+/// How a line says that the file with its book is opened.
+pub(crate) fn opening(alloc: Global, values: &ArgMatches<'_>) -> Result<Opening, LineFault>
+    ensures { meant.Reads (meant.SaysOpening (rows_of (found_of values.now))) result }
+{
+    Ok(Opening {
+        wait: wait(alloc, values)?,
+        is_wary: has_flag(values, "wary"),
+    })
 }
 
 // The fault of a line that has a word which it is to lack.
@@ -223,5 +244,9 @@ pub(crate) fn leaves_to_server(alloc: Global, values: &ArgMatches<'_>) -> Result
         "--book and --server exclude each other\n",
     )?;
     without(alloc, values, "at", "--at is the server's to say\n")?;
-    without(alloc, values, "wait", "--wait is for a book in a file\n")
+    without(alloc, values, "wait", "--wait is for a book in a file\n")?;
+    if has_flag(values, "wary") {
+        return Err(usage(alloc, "--wary is for a book in a file\n"));
+    }
+    Ok(())
 }

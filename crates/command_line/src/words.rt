@@ -27,9 +27,8 @@ pub enum Words<'a> {
     Over {
         /// The file with the book; None in a script, which has a book of its own.
         book: Option<&'a str>,
-        /// For how many seconds a book that is in use is waited for, 0 to 65535, if the line says
-        /// it.
-        wait: Option<u16>,
+        /// How that file is opened.
+        opening: Opening,
         /// What is done.
         task: Task<'a>,
     },
@@ -41,6 +40,15 @@ pub enum Words<'a> {
         /// `stock`, `open`, `orders`, `outbox` or `depositors`.
         task: Task<'a>,
     },
+}
+
+/// How the file with a book is opened.
+#[derive(Clone, Copy)]
+pub struct Opening {
+    /// For how many seconds a book that is in use is waited for, 0 to 65535, if the line says it.
+    pub wait: Option<u16>,
+    /// Whether nothing is supposed of what a torn write leaves; else that each byte is old or new.
+    pub is_wary: bool,
 }
 
 /// What is done over a book.
@@ -68,7 +76,7 @@ pub enum Task<'a> {
     /// Serve the book over HTTP.
     Serve {
         /// Where, and for how long.
-        service: Service,
+        service: Service<'a>,
         /// The moment of each request, if the line says one.
         at: Option<Moment>,
     },
@@ -78,7 +86,7 @@ pub enum Task<'a> {
 
 /// Where a book is served, and for how long.
 #[derive(Clone, Copy)]
-pub struct Service {
+pub struct Service<'a> {
     /// The IP address and port to listen at.
     pub address: SocketAddr,
     /// How many connections are served, 1 to 65535.
@@ -88,6 +96,9 @@ pub struct Service {
     pub patience: Option<u16>,
     /// Whether clerks' requests are taken too.
     pub clerks: bool,
+    /// The names by which a request may call the server, with a comma between any two, if the line
+    /// says any.
+    pub hosts: Option<&'a str>,
 }
 
 /// What changes a book.

@@ -40,12 +40,12 @@ show_not f (show.Outbox who number) s = ap is_init s.0
 show_not f show.Depositors s = ap is_init s
 
 named_so : (f : Found) (asked : Words) (name : List ℕ) → IsInit asked name → Says Script f asked → f.0 ≡ codes "init"
-named_so f (words.Over book wait (task.Init who)) name i s = s.5.0
-named_so f (words.Over book wait (task.Act a at)) name i s = absurd i
-named_so f (words.Over book wait (task.Show a)) name i s = absurd i
-named_so f (words.Over book wait (task.Batch file)) name i s = absurd i
-named_so f (words.Over book wait (task.Serve a at)) name i s = absurd i
-named_so f (words.Over book wait task.Verify) name i s = absurd i
+named_so f (words.Over book opening (task.Init who)) name i s = s.5.0
+named_so f (words.Over book opening (task.Act a at)) name i s = absurd i
+named_so f (words.Over book opening (task.Show a)) name i s = absurd i
+named_so f (words.Over book opening (task.Batch file)) name i s = absurd i
+named_so f (words.Over book opening (task.Serve a at)) name i s = absurd i
+named_so f (words.Over book opening task.Verify) name i s = absurd i
 named_so f (words.Script file) name i s = absurd i
 named_so f (words.Remote server t) name i s = absurd i
 
@@ -53,12 +53,12 @@ clash : (f : Found) → f.0 ≡ codes "init" → is_init f.0 ≡ false → ⊥
 clash f is not = true≢false (sym (ap is_init is) ∙ not)
 
 alone : (f : Found) (other : Words) → Says Script f other → f.0 ≡ codes "init" → ((name : List ℕ) → IsInit other name → ⊥) → ⊥
-alone f (words.Over book wait (task.Init who)) s is none = none who.now refl
-alone f (words.Over book wait (task.Act a at)) s is none = clash f is (act_not f a s.5.0)
-alone f (words.Over book wait (task.Show a)) s is none = clash f is (show_not f a s.5)
-alone f (words.Over book wait (task.Batch file)) s is none = clash f is (ap is_init s.5.0)
-alone f (words.Over book wait (task.Serve a at)) s is none = clash f is (ap is_init s.5.0)
-alone f (words.Over book wait task.Verify) s is none = clash f is (ap is_init s.5)
+alone f (words.Over book opening (task.Init who)) s is none = none who.now refl
+alone f (words.Over book opening (task.Act a at)) s is none = clash f is (act_not f a s.5.0)
+alone f (words.Over book opening (task.Show a)) s is none = clash f is (show_not f a s.5)
+alone f (words.Over book opening (task.Batch file)) s is none = clash f is (ap is_init s.5.0)
+alone f (words.Over book opening (task.Serve a at)) s is none = clash f is (ap is_init s.5.0)
+alone f (words.Over book opening task.Verify) s is none = clash f is (ap is_init s.5)
 alone f (words.Script file) s is none = clash f is (ap is_init s.0)
 alone f (words.Remote server t) s is none = true≢false (sym s.2 ∙ ap takes_server is)
 
@@ -69,15 +69,15 @@ unasked row read other same r none can =
     let one : mine.found ≡ asks.read.found = ap (λ (o : Option Found). unwrap_or o mine.found) (sym mine.named ∙ asks.read.named) in
     alone mine.found other mine.says (ap (λ (f : Found). f.0) one ∙ named_so asks.read.found asks.asked can.name asks.init asks.read.says) none
 
-pub no_over : (asked : Words) → ((book : _) (wait : _) (t : Task) → asked ≢ words.Over book wait t) → (name : List ℕ) → IsInit asked name → ⊥
-no_over (words.Over book wait t) not name i = not book wait t refl
+pub no_over : (asked : Words) → ((book : _) (opening : _) (t : Task) → asked ≢ words.Over book opening t) → (name : List ℕ) → IsInit asked name → ⊥
+no_over (words.Over book opening t) not name i = not book opening t refl
 no_over (words.Script file) not name i = i
 no_over (words.Remote server t) not name i = i
 
-pub no_init : (book : _) (wait : _) (t : Task) → ((who : _) → t ≢ task.Init who) → (name : List ℕ) → IsInit (words.Over book wait t) name → ⊥
-no_init book wait (task.Init who) not name i = not who refl
-no_init book wait (task.Act a at) not name i = i
-no_init book wait (task.Show a) not name i = i
-no_init book wait (task.Batch file) not name i = i
-no_init book wait (task.Serve a at) not name i = i
-no_init book wait task.Verify not name i = i
+pub no_init : (book : _) (opening : _) (t : Task) → ((who : _) → t ≢ task.Init who) → (name : List ℕ) → IsInit (words.Over book opening t) name → ⊥
+no_init book opening (task.Init who) not name i = not who refl
+no_init book opening (task.Act a at) not name i = i
+no_init book opening (task.Show a) not name i = i
+no_init book opening (task.Batch file) not name i = i
+no_init book opening (task.Serve a at) not name i = i
+no_init book opening task.Verify not name i = i

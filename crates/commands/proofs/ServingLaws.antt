@@ -4,7 +4,7 @@ use Rattle.std.specs.List.{FoldsTo}
 use Rattle.profile.specs.Moments.{Moment}
 use Rattle.intake.specs.declared.served.Connection.{Connection}
 use Rattle.store.specs.Standing.{Standing}
-use Rattle.intake.specs.declared.audience.Audience.{Audience}
+use Rattle.intake.specs.declared.audience.Access.{Access}
 use Rattle.commands.specs.Serving.{NextMoment, Comes, Came}
 use Rattle.intake.specs.Connections.{HasTold, IsServed, moment_of}
 
@@ -49,13 +49,13 @@ stays asks p q [] h = none _
 stays {F} asks p q (c ∷ cs) h =
     first_of_all (λ (d : Connection). d.moment ≡ p.1) c cs h.1.0 (subst (λ (r : F × Moment). All (λ (d : Connection). d.moment ≡ r.1) cs) h.1.1 (stays asks h.0 q cs h.2))
 
-pub came : {F K : Type 0} (asks : F → Option Moment → F → Type 0) (standing : K → Standing) (served meant : Audience) (has_clock : Bool) (ask : F) (first : Moment) (book left : K) (count : ℕ) → served ≡ meant
+pub came : {F K : Type 0} (asks : F → Option Moment → F → Type 0) (standing : K → Standing) (served meant : Access) (has_clock : Bool) (ask : F) (first : Moment) (book left : K) (count : ℕ) → served ≡ meant
     → Comes asks (λ old c new. IsServed served (standing old) (standing new) c) has_clock ask first book left count
     → Came (λ old c new. IsServed meant (standing old) (standing new) c) has_clock first book left count
 came {F} {K} asks standing served meant has_clock ask first book left count same h = record {
   connections = h.connections;
   moments = λ e. stays asks (ask, first) h.last h.connections
       (subst (λ (b : Bool). FoldsTo (NextMoment asks b) (ask, first) (map moment_of h.connections) h.last) e h.moments);
-  served = subst (λ (a : Audience). FoldsTo (λ (old : K) (c : Connection) (new : K). IsServed a (standing old) (standing new) c) book h.connections left) same h.served;
+  served = subst (λ (a : Access). FoldsTo (λ (old : K) (c : Connection) (new : K). IsServed a (standing old) (standing new) c) book h.connections left) same h.served;
   counted = h.counted;
 }

@@ -1,9 +1,11 @@
 -- Whose requests a server takes, and when its connections come.
-use Rattle.std.specs.Prelude.{◌≡◌, ◌≤◌, ℕ, Bool, true, false, List, Option, All, length, map, unwrap_or}
+use Rattle.std.specs.Prelude.{◌≡◌, ◌≤◌, ℕ, Bool, true, false, List, Option, Some, All, length, map, unwrap_or}
 use Rattle.std.specs.List.{FoldsTo}
 use Rattle.profile.specs.Moments.{Moment}
 use Rattle.store.specs.Standing.{Standing}
 use Rattle.intake.specs.Connections.{IsServed, moment_of}
+use Rattle.command_line.specs.declared.words.Service.{Service}
+use Rattle.intake.specs.declared.audience.Access.{Access}
 use Rattle.intake.specs.declared.audience.Audience.{Audience}
 use Rattle.intake.specs.declared.audience.Audience.TheVariants.{Partners, Clerks}
 use Rattle.intake.specs.declared.served.Connection.{Connection}
@@ -12,6 +14,11 @@ use Rattle.intake.specs.declared.served.Connection.{Connection}
 abbrev pub audience_of : Bool → Audience
 audience_of true = Clerks
 audience_of false = Partners
+
+-- whom a service answers: there are always doors, which know it by these names beside its address
+abbrev pub access_of : Service → Access
+access_of service =
+    record { audience = audience_of service.clerks; doors = Some (record { names = service.hosts }) }
 
 -- The next moment, and the last good one then. Where no clock is asked it is the same again; else
 -- the clock is asked once, and where it gives none, it is the last good one.
@@ -41,14 +48,14 @@ pub record Came
   pub served : FoldsTo serves book connections left
   pub counted : length connections ≡ count
 
--- So many connections of that audience were served of a book.
-abbrev pub HasServed : {K : Type 0} → (K → Standing) → Audience → Bool → Moment → K → K → ℕ → Type 0
-HasServed standing audience has_clock first book left count =
-    Came (λ old c new. IsServed audience (standing old) (standing new) c) has_clock first book
+-- So many connections were served of a book to those who have access.
+abbrev pub HasServed : {K : Type 0} → (K → Standing) → Access → Bool → Moment → K → K → ℕ → Type 0
+HasServed standing access has_clock first book left count =
+    Came (λ old c new. IsServed access (standing old) (standing new) c) has_clock first book
     left count
 
 -- The same of some number, this one at most.
-abbrev pub HasServedUpTo : {K : Type 0} → (K → Standing) → Audience → Bool → Moment → K → K → ℕ
+abbrev pub HasServedUpTo : {K : Type 0} → (K → Standing) → Access → Bool → Moment → K → K → ℕ
     → Type 0
-HasServedUpTo standing audience has_clock first book left most =
-    (n : ℕ) × (n ≤ most) × HasServed standing audience has_clock first book left n
+HasServedUpTo standing access has_clock first book left most =
+    (n : ℕ) × (n ≤ most) × HasServed standing access has_clock first book left n

@@ -12,7 +12,9 @@ use crate::told::{CommandError, ExitStatus};
 use crate::verbosity::Verbosity;
 use command_line::Service;
 use http::StatusCode;
-use intake::{Audience, Connection, Patience, RequestLine, serve_within, write_sender};
+use intake::{
+    Access, Audience, Connection, Doors, Patience, RequestLine, serve_within, write_sender,
+};
 use std::io;
 use std::net::TcpListener;
 use std::time::Duration;
@@ -22,7 +24,7 @@ use store::{Fault, Keeper, Moment};
 const PATIENCE: u16 = 30;
 
 // How long a service waits for a request, and for its response.
-fn patience_of<'a>(rt: &'a HostRuntime, service: &Service) -> Patience<'a, HostRuntime> {
+fn patience_of<'a>(rt: &'a HostRuntime, service: &Service<'_>) -> Patience<'a, HostRuntime> {
     let seconds = match service.patience {
         Some(seconds) => seconds,
         None => PATIENCE,
@@ -34,13 +36,25 @@ fn patience_of<'a>(rt: &'a HostRuntime, service: &Service) -> Patience<'a, HostR
 }
 
 // Whose requests a service takes.
-fn audience_of(service: &Service) -> Audience
-    ensures { result ≡ meant.audience_of service.now.clerks }
+fn audience_of(clerks: bool) -> Audience
+    ensures { result ≡ meant.audience_of clerks }
 {
-    if service.clerks {
+    if clerks {
         Audience::Clerks
     } else {
         Audience::Partners
+    }
+}
+
+// Whom a service answers.
+fn access_of<'a>(service: &Service<'a>) -> Access<'a>
+    ensures { result ≡ meant.access_of service.now }
+{
+    Access {
+        audience: audience_of(service.clerks),
+        doors: Some(Doors {
+            names: service.hosts,
+        }),
     }
 }
 
@@ -117,8 +131,8 @@ fn moment_after(found: Option<Moment>, last: Moment) -> Moment
     }
 }
 
-// Serves as `serve_on` does, to that audience. The clock's moment is what `ask` gives, which is
-// called once for each connection; None where the clock can't be used then.
+// Serves as `serve_on` does, to those who have access. The clock's moment is what `ask` gives,
+// which is called once for each connection; None where the clock can't be used then.
 fn serve_asking<
     K: Keeper,
     F: FnMut() -> Option<Moment>,
@@ -128,8 +142,8 @@ fn serve_asking<
 >(
     rt: &HostRuntime,
     listener: &TcpListener,
-    service: &Service,
-    audience: Audience,
+    service: &Service<'_>,
+    access: Access<'_>,
     book: &mut K,
     first: Moment,
     has_clock: bool,
@@ -143,10 +157,10 @@ fn serve_asking<
     requires admits { A.IsAlwaysCallable admits }
 
     ensures served { OnOk result (Comes F.step
-        (λ old c new. IsServed audience (K.standing old) (K.standing new) c)
+        (λ old c new. IsServed access.entry (K.standing old) (K.standing new) c)
         has_clock ask first book.old book.new service.now.count) }
     ensures ended { OnErr result ((n : ℕ) × (n ≤ service.now.count) × Comes F.step
-        (λ old c new. IsServed audience (K.standing old) (K.standing new) c)
+        (λ old c new. IsServed access.entry (K.standing old) (K.standing new) c)
         has_clock ask first book.old book.new n) }
     ensures goes { GoesOn (K.standing book.old) (K.standing book.new) }
 {
@@ -167,7 +181,7 @@ fn serve_asking<
         listener,
         service.count,
         book,
-        audience,
+        access,
         clock,
         |connection: Connection| {
             if tell_outcome(out, &connection.served.outcome).is_err() {
@@ -196,7 +210,7 @@ fn serve_asking<
 pub fn serve_on<K: Keeper, A: FnMut() -> bool, W: io::Write, E: io::Write>(
     rt: &HostRuntime,
     listener: &TcpListener,
-    service: &Service,
+    service: &Service<'_>,
     book: &mut K,
     first: Moment,
     has_clock: bool,
@@ -207,9 +221,9 @@ pub fn serve_on<K: Keeper, A: FnMut() -> bool, W: io::Write, E: io::Write>(
 ) -> Result<ExitStatus, CommandError>
     requires admits { A.IsAlwaysCallable admits }
 
-    ensures served { OnOk result (HasServed K.standing (meant.audience_of service.now.clerks)
+    ensures served { OnOk result (HasServed K.standing (meant.access_of service.now)
         has_clock first book.old book.new service.now.count) }
-    ensures ended { OnErr result (HasServedUpTo K.standing (meant.audience_of service.now.clerks)
+    ensures ended { OnErr result (HasServedUpTo K.standing (meant.access_of service.now)
         has_clock first book.old book.new service.now.count) }
     ensures goes { GoesOn (K.standing book.old) (K.standing book.new) }
 {
@@ -217,7 +231,7 @@ pub fn serve_on<K: Keeper, A: FnMut() -> bool, W: io::Write, E: io::Write>(
         rt,
         listener,
         service,
-        audience_of(service),
+        access_of(service),
         book,
         first,
         has_clock,
@@ -244,16 +258,16 @@ pub fn serve<K: Keeper, W: io::Write, E: io::Write>(
     rt: &HostRuntime,
     book: &mut K,
     file: &ServedFile<'_>,
-    service: &Service,
+    service: &Service<'_>,
     first: Moment,
     has_clock: bool,
     verbosity: Verbosity,
     out: &mut W,
     err: &mut E,
 ) -> Result<ExitStatus, CommandError>
-    ensures served { OnOk result (HasServed K.standing (meant.audience_of service.now.clerks)
+    ensures served { OnOk result (HasServed K.standing (meant.access_of service.now)
         has_clock first book.old book.new service.now.count) }
-    ensures ended { OnErr result (HasServedUpTo K.standing (meant.audience_of service.now.clerks)
+    ensures ended { OnErr result (HasServedUpTo K.standing (meant.access_of service.now)
         has_clock first book.old book.new service.now.count) }
     ensures goes { GoesOn (K.standing book.old) (K.standing book.new) }
 {

@@ -9,7 +9,8 @@ use Rattle.profile.specs.Response.{Response, Method, Route, Head, is_exchange, b
 use Rattle.store.specs.Standing.{Standing}
 use Rattle.intake.specs.Calls.{Call, call_of}
 use Rattle.intake.specs.Fields.{head_of}
-use Rattle.intake.specs.Serving.{IsAnswered, call_submitted, call_answer, command_in, answer_of}
+use Rattle.intake.specs.Admitting.{call_submitted, call_answer, command_in, answer_of}
+use Rattle.intake.specs.Serving.{IsAnswered}
 use Rattle.intake.specs.Targets.{Target, ToRoute, ToCall, target_by, target_of, handed_in, asked_with, command_with, response_with}
 use Rattle.intake.specs.declared.audience.Audience.{Audience}
 use Rattle.intake.specs.declared.audience.Audience.TheVariants.{Partners, Clerks}

@@ -1,5 +1,5 @@
 -- the response by each of the tests
-use Rattle.std.proofs.Common.{◌≡◌, ℕ, ◌<◌, ◌≤◌, List, [], ◌++◌, take, drop, Option, Some, None, IfSome, Result, Err, Ok, sym, length, ◌∙◌, refl, true, false, unwrap_or, nat_lt, arith, ap, subst, inl, inr}
+use Rattle.std.proofs.Common.{◌≡◌, ℕ, ◌<◌, ◌≤◌, List, [], ◌++◌, take, drop, Option, Some, None, IfSome, Result, Err, Ok, sym, length, ◌∙◌, refl, true, false, unwrap_or, option_map, nat_lt, arith, ap, subst, inl, inr}
 use Rattle.std.proofs.lemmas.Bool.Decides.{nat_tests}
 use Rattle.std.specs.Io.KnownBytes.{Consumes}
 use Rattle.httparse.specs.Grammar.{RequestHead}
@@ -13,14 +13,19 @@ use Rattle.store.specs.Standing.{Standing}
 use Rattle.store.specs.Fault.TheVariants.{OutOfMemory}
 use Rattle.store.proofs.Changes.{unchanged_refl}
 use Rattle.intake.specs.Fields.{head_of}
+use Rattle.intake.specs.Asking.{IsShutAnswer}
 use Rattle.intake.specs.Lines.{IsLineAt, TellsOf, HasLine, TellsSender, sender_in}
+use Rattle.doors.specs.Doors.{status_of}
+use Rattle.doors.specs.declared.barred.Barred.{Barred}
+use Rattle.intake.specs.declared.audience.Access.{Access}
 use Rattle.intake.specs.declared.audience.Audience.{Audience}
 use Rattle.intake.specs.declared.audience.Audience.TheVariants.{Partners, Clerks}
 use Rattle.intake.specs.declared.served.RequestLine.{RequestLine}
 use Rattle.fields.specs.Fields.{most_head, most_fields}
 use Rattle.gauges.specs.Inputs.{IsInput}
 use Rattle.intake.specs.Requests.{HasNoHead}
-use Rattle.intake.specs.Serving.{IsAnswered, IsExchange, IsExchangeAfter, IsTargetServed, command_in, answer_of}
+use Rattle.intake.specs.Admitting.{answer_of, answer_past, asks_past, barred_at, command_in, command_past}
+use Rattle.intake.specs.Serving.{IsAnswered, IsExchange, IsExchangeAfter, IsTargetServed}
 use Rattle.intake.specs.Targets.{Target, target_of, target_command, has_body, asked_with, command_with}
 use Rattle.intake.proofs.Heads.{head_within}
 use Rattle.gauges.proofs.InputLemmas.{had_input, more_input}
@@ -173,21 +178,52 @@ line_read (Some line) known mid got fields spans h room many within at bytes cop
   told = (copied.0 ∙ at.method, copied.1 ∙ at.path);
 }
 
--- the answer to a head is the answer to the input that begins with it
-pub whole_answer : (audience : Audience) (old new : Standing) (t : Moment) (known mid : Option (List ℕ)) (got : List ℕ) (fields : List HeaderSpan) (spans : RequestSpans) (h : RequestHead) (r : Response) (line : Option RequestLine) (sender : Option Who)
+-- the answer to a head that isn't turned away is the answer to the input that begins with it
+pub whole_answer : (access : Access) (old new : Standing) (t : Moment) (known mid : Option (List ℕ)) (got : List ℕ) (fields : List HeaderSpan) (spans : RequestSpans) (h : RequestHead) (r : Response) (line : Option RequestLine) (sender : Option Who)
     → length got ≤ most_head → length fields ≤ most_fields → IsRequestWithin got fields spans → IsRequestAt got fields spans h → Consumes known mid got → IfSome line (IsLineAt got spans)
-    → IsExchangeAfter audience old new mid t h (drop spans.len got) r sender → IsExchange audience old new known t r line sender
-whole_answer audience old new t known mid got fields spans h r line sender room many within at bytes copied answer = record {
+    → barred_at access.doors h ≡ None → IsExchangeAfter access.audience old new mid t h (drop spans.len got) r sender → IsExchange access old new known t r line sender
+whole_answer access old new t known mid got fields spans h r line sender room many within at bytes copied past answer = record {
   input = got ++ answer.input;
   is_input = more_input known mid got answer.input bytes answer.is_input;
   head = Some h;
   rest = drop spans.len got ++ answer.input;
   begins = head_within got answer.input fields spans h room many within at;
   told = told_of line got fields spans h at copied;
-  sent = answer.sent;
-  answered = answer.answered;
-  shut = answer.shut;
+  sent = subst (λ (b : Option Barred). TellsSender sender (command_past b access.audience h (drop spans.len got ++ answer.input)) r) (sym past) answer.sent;
+  answered =
+      subst (λ (b : Option Barred). IsAnswered old new t (command_past b access.audience h (drop spans.len got ++ answer.input))
+      (λ L. answer_past b access.audience old.warehouse L h (drop spans.len got ++ answer.input) t) r) (sym past) answer.answered;
+  shut = subst (λ (b : Option Barred). IsShutAnswer old (asks_past b access.audience h (drop spans.len got ++ answer.input)) r) (sym past) answer.shut;
 }
+
+-- by the status that tells why a head is turned away
+pub unbarred : (o : Option Barred) → None ≡ option_map status_of o → o ≡ None
+unbarred None is = refl
+unbarred (Some why) is = absurd (cc)
+
+pub why_barred : (status : ℕ) (o : Option Barred) → Some status ≡ option_map status_of o → (why : Barred) × (o ≡ Some why) × (status ≡ status_of why)
+why_barred status None is = absurd (cc)
+why_barred status (Some why) is = (why, refl, cc)
+
+-- a head that is turned away hands nothing in and asks for nothing
+pub turned_away : (access : Access) (s : Standing) (t : Moment) (known mid : Option (List ℕ)) (got : List ℕ) (fields : List HeaderSpan) (spans : RequestSpans) (h : RequestHead) (why : Barred) (r : Response) (line : Option RequestLine) (sender : Option Who)
+    → length got ≤ most_head → length fields ≤ most_fields → IsRequestWithin got fields spans → IsRequestAt got fields spans h → Consumes known mid got → IfSome line (IsLineAt got spans)
+    → barred_at access.doors h ≡ Some why → r ≡ bare (status_of why) → sender ≡ None → IsExchange access s s known t r line sender
+turned_away access s t known mid got fields spans h why r line sender room many within at bytes copied is says unsent =
+    let rest = drop spans.len got ++ unwrap_or mid [] in
+    record {
+      input = got ++ unwrap_or mid [];
+      is_input = had_input known mid got bytes;
+      head = Some h;
+      rest = rest;
+      begins = head_within got (unwrap_or mid []) fields spans h room many within at;
+      told = told_of line got fields spans h at copied;
+      sent = subst (λ (b : Option Barred). TellsSender sender (command_past b access.audience h rest) r) (sym is) (inl unsent);
+      answered =
+          subst (λ (b : Option Barred). IsAnswered s s t (command_past b access.audience h rest) (λ L. answer_past b access.audience s.warehouse L h rest t) r) (sym is)
+          (at_error s t (bare (status_of why)) r says);
+      shut = λ was asks. absurd (let d : false ≡ true = subst (λ (b : Option Barred). asks_past b access.audience h rest ≡ true) is asks in cc);
+    }
 
 -- no head, whoever is served: nothing is handed in
 unsent_by : (audience : Audience) (r : Response) (sender : Option Who) → sender ≡ None → TellsSender sender (command_in audience None []) r
@@ -199,16 +235,16 @@ headless : (audience : Audience) (s : Standing) (t : Moment) (r : Response) → 
 headless Partners s t r is = at_error s t (bare 400) r is
 headless Clerks s t r is = at_error s t (bare 400) r is
 
-pub headless_answer : (audience : Audience) (s : Standing) (t : Moment) (known mid : Option (List ℕ)) (got : List ℕ) (r : Response) (sender : Option Who)
-    → Consumes known mid got → HasNoHead (got ++ unwrap_or mid []) → r ≡ bare 400 → sender ≡ None → IsExchange audience s s known t r None sender
-headless_answer audience s t known mid got r sender bytes none is unsent = record {
+pub headless_answer : (access : Access) (s : Standing) (t : Moment) (known mid : Option (List ℕ)) (got : List ℕ) (r : Response) (sender : Option Who)
+    → Consumes known mid got → HasNoHead (got ++ unwrap_or mid []) → r ≡ bare 400 → sender ≡ None → IsExchange access s s known t r None sender
+headless_answer access s t known mid got r sender bytes none is unsent = record {
   input = got ++ unwrap_or mid [];
   is_input = had_input known mid got bytes;
   head = None;
   rest = [];
   begins = none;
   told = tt;
-  sent = unsent_by audience r sender unsent;
-  answered = headless audience s t r is;
+  sent = unsent_by access.audience r sender unsent;
+  answered = headless access.audience s t r is;
   shut = λ was yes. cc;
 }

@@ -9,7 +9,8 @@ use Rattle.profile.specs.Register.{Entry}
 use Rattle.profile.specs.Response.{asked, Nowhere}
 use Rattle.intake.specs.Routes.{route_of}
 use Rattle.intake.specs.Fields.{head_of}
-use Rattle.intake.specs.Serving.{BeginsWith, call_submitted, call_answer, command_in, answer_of}
+use Rattle.intake.specs.Admitting.{call_submitted, call_answer, command_in, answer_of}
+use Rattle.intake.specs.Serving.{BeginsWith}
 use Rattle.intake.specs.declared.audience.Audience.{Audience}
 use Rattle.intake.specs.declared.audience.Audience.TheVariants.{Partners, Clerks}
 use Rattle.intake.proofs.Whole.{calls_nothing}

@@ -6,18 +6,18 @@ use Rattle.std.proofs.lemmas.List.{length_push, map-append}
 use Rattle.std.proofs.lemmas.List.Elements.{All-push}
 use Rattle.profile.specs.Moments.{Moment}
 use Rattle.store.specs.Standing.{Standing, IsUnchanged}
-use Rattle.intake.specs.declared.audience.Audience.{Audience}
+use Rattle.intake.specs.declared.audience.Access.{Access}
 use Rattle.intake.specs.declared.served.Connection.{Connection}
 use Rattle.intake.specs.Connections.{HasTold, IsNotAccepted, IsConnectionOutcome, IsServedOn, moment_of}
 use Rattle.intake.specs.Serving.{IsResponseWritten, IsUnread, IsUnwritten}
 
 -- by what its reader and its writer have, and what became of them
-pub served_on : (audience : Audience) (old new : Standing) (c : Connection) (known before later : Option (List ℕ)) (unread still unwritten more : ℕ)
-    → IfOk c.served.outcome (λ status. IsResponseWritten audience old new known c.moment before later status c.served.line c.served.sender c.served.bytes)
+pub served_on : (access : Access) (old new : Standing) (c : Connection) (known before later : Option (List ℕ)) (unread still unwritten more : ℕ)
+    → IfOk c.served.outcome (λ status. IsResponseWritten access old new known c.moment before later status c.served.line c.served.sender c.served.bytes)
     → OnErr c.served.outcome (IsUnread old new known before later unread still c.served.line c.served.sender c.served.bytes
-    ⊎ IsUnwritten audience old new known c.moment before later unwritten more c.served.line c.served.sender c.served.bytes)
-    → IsServedOn audience old new c
-served_on audience old new c known before later unread still unwritten more written stopped = record {
+    ⊎ IsUnwritten access old new known c.moment before later unwritten more c.served.line c.served.sender c.served.bytes)
+    → IsServedOn access old new c
+served_on access old new c known before later unread still unwritten more written stopped = record {
   known = known;
   before = before;
   later = later;
@@ -28,13 +28,13 @@ served_on audience old new c known before later unread still unwritten more writ
 }
 
 -- with a peer, and with none
-pub accepted : {P : Type 0} (audience : Audience) (old new : Standing) (c : Connection) (peer : P) (found : Option P) → found ≡ Some peer → IsServedOn audience old new c
-    → MatchOption found (IsUnchanged old new × IsNotAccepted c) (λ p. IsServedOn audience old new c)
-accepted audience old new c peer found e is = subst (λ o. MatchOption o (IsUnchanged old new × IsNotAccepted c) (λ p. IsServedOn audience old new c)) (sym e) is
+pub accepted : {P : Type 0} (access : Access) (old new : Standing) (c : Connection) (peer : P) (found : Option P) → found ≡ Some peer → IsServedOn access old new c
+    → MatchOption found (IsUnchanged old new × IsNotAccepted c) (λ p. IsServedOn access old new c)
+accepted access old new c peer found e is = subst (λ o. MatchOption o (IsUnchanged old new × IsNotAccepted c) (λ p. IsServedOn access old new c)) (sym e) is
 
-pub not_accepted : {P : Type 0} (audience : Audience) (old new : Standing) (c : Connection) (found : Option P) → found ≡ None → IsUnchanged old new → IsNotAccepted c
-    → MatchOption found (IsUnchanged old new × IsNotAccepted c) (λ p. IsServedOn audience old new c)
-not_accepted audience old new c found e same is = subst (λ o. MatchOption o (IsUnchanged old new × IsNotAccepted c) (λ p. IsServedOn audience old new c)) (sym e) (same, is)
+pub not_accepted : {P : Type 0} (access : Access) (old new : Standing) (c : Connection) (found : Option P) → found ≡ None → IsUnchanged old new → IsNotAccepted c
+    → MatchOption found (IsUnchanged old new × IsNotAccepted c) (λ p. IsServedOn access old new c)
+not_accepted access old new c found e same is = subst (λ o. MatchOption o (IsUnchanged old new × IsNotAccepted c) (λ p. IsServedOn access old new c)) (sym e) (same, is)
 
 pub told_more : {K C T : Type 0} (serves : K → Connection → K → Type 0) (gives : C → Moment → C → Type 0) (takes : T → Connection → T → Type 0) (book left since : K) (clock after next : C) (told last more : T) (count : ℕ) (t : Moment) (c : Connection)
     → HasTold serves gives takes book left clock after told last count → serves left c since → gives after t next → takes last c more → c.moment ≡ t → IsConnectionOutcome c

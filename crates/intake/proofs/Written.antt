@@ -7,7 +7,7 @@ use Rattle.intake.specs.Answers.{fixed_text, parts, seen, type_text, length_text
 use Rattle.intake.specs.declared.response.Response.{Response}
 use Rattle.intake.specs.declared.response.Status.{Status}
 use Rattle.std.specs.Fmt.{digits}
-use Rattle.intake.specs.declared.response.Status.TheVariants.{Okay, NoContent, BadRequest, NotFound, MethodNotAllowed, Conflict, LengthRequired, PayloadTooLarge, UnprocessableEntity, NotImplemented, ServiceUnavailable}
+use Rattle.intake.specs.declared.response.Status.TheVariants.{Okay, NoContent, BadRequest, Forbidden, NotFound, MethodNotAllowed, Conflict, LengthRequired, PayloadTooLarge, MisdirectedRequest, UnprocessableEntity, NotImplemented, ServiceUnavailable}
 use Rattle.intake.specs.declared.response.Body.{Body}
 use Rattle.intake.specs.declared.response.MediaType.{MediaType}
 use Rattle.intake.specs.declared.response.Allow.{Allow}
@@ -56,11 +56,13 @@ phrase_short : (s : Status) → length (phrase (number s)) ≤ 40
 phrase_short Okay = lit≤ tt
 phrase_short NoContent = lit≤ tt
 phrase_short BadRequest = lit≤ tt
+phrase_short Forbidden = lit≤ tt
 phrase_short NotFound = lit≤ tt
 phrase_short MethodNotAllowed = lit≤ tt
 phrase_short Conflict = lit≤ tt
 phrase_short LengthRequired = lit≤ tt
 phrase_short PayloadTooLarge = lit≤ tt
+phrase_short MisdirectedRequest = lit≤ tt
 phrase_short UnprocessableEntity = lit≤ tt
 phrase_short NotImplemented = lit≤ tt
 phrase_short ServiceUnavailable = lit≤ tt
@@ -97,11 +99,13 @@ unfolding digits
 texts_are Okay = refl
 texts_are NoContent = refl
 texts_are BadRequest = refl
+texts_are Forbidden = refl
 texts_are NotFound = refl
 texts_are MethodNotAllowed = refl
 texts_are Conflict = refl
 texts_are LengthRequired = refl
 texts_are PayloadTooLarge = refl
+texts_are MisdirectedRequest = refl
 texts_are UnprocessableEntity = refl
 texts_are NotImplemented = refl
 texts_are ServiceUnavailable = refl

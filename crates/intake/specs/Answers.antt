@@ -2,7 +2,7 @@
 use Rattle.std.specs.Prelude.{ℕ, List, [], ◌++◌, Option, Some, None, codes, option_map}
 use Rattle.profile.specs.Response.{Response, bare, header, phrase, plain_type, with_body, x12_type}
 use Rattle.intake.specs.declared.response.Status.{Status}
-use Rattle.intake.specs.declared.response.Status.TheVariants.{Okay, NoContent, BadRequest, NotFound, MethodNotAllowed, Conflict, LengthRequired, PayloadTooLarge, UnprocessableEntity, NotImplemented, ServiceUnavailable}
+use Rattle.intake.specs.declared.response.Status.TheVariants.{Okay, NoContent, BadRequest, Forbidden, NotFound, MethodNotAllowed, Conflict, LengthRequired, PayloadTooLarge, MisdirectedRequest, UnprocessableEntity, NotImplemented, ServiceUnavailable}
 use Rattle.intake.specs.declared.response.MediaType.{MediaType}
 use Rattle.intake.specs.declared.response.MediaType.TheVariants.{Plain, Interchange}
 use Rattle.intake.specs.declared.response.Allow.{Allow}
@@ -15,11 +15,13 @@ abbrev pub number : Status → ℕ
 number Okay = 200
 number NoContent = 204
 number BadRequest = 400
+number Forbidden = 403
 number NotFound = 404
 number MethodNotAllowed = 405
 number Conflict = 409
 number LengthRequired = 411
 number PayloadTooLarge = 413
+number MisdirectedRequest = 421
 number UnprocessableEntity = 422
 number NotImplemented = 501
 number ServiceUnavailable = 503
@@ -73,11 +75,13 @@ abbrev pub fixed_text : Status → List ℕ
 fixed_text Okay = codes "200 OK\n"
 fixed_text NoContent = codes "204 No Content\n"
 fixed_text BadRequest = codes "400 Bad Request\n"
+fixed_text Forbidden = codes "403 Forbidden\n"
 fixed_text NotFound = codes "404 Not Found\n"
 fixed_text MethodNotAllowed = codes "405 Method Not Allowed\n"
 fixed_text Conflict = codes "409 Conflict\n"
 fixed_text LengthRequired = codes "411 Length Required\n"
 fixed_text PayloadTooLarge = codes "413 Payload Too Large\n"
+fixed_text MisdirectedRequest = codes "421 Misdirected Request\n"
 fixed_text UnprocessableEntity = codes "422 Unprocessable Entity\n"
 fixed_text NotImplemented = codes "501 Not Implemented\n"
 fixed_text ServiceUnavailable = codes "503 Service Unavailable\n"

@@ -5,7 +5,7 @@ use Rattle.profile.specs.Moments.{Moment}
 use Rattle.store.specs.Standing.{Standing, IsUnchanged, GoesOn}
 use Rattle.store.specs.Fault.TheVariants.{Device}
 use Rattle.intake.specs.Serving.{IsResponseWritten, IsUnread, IsUnwritten}
-use Rattle.intake.specs.declared.audience.Audience.{Audience}
+use Rattle.intake.specs.declared.audience.Access.{Access}
 use Rattle.intake.specs.declared.served.Connection.{Connection}
 
 -- a status was answered, or the fault is Device
@@ -20,19 +20,19 @@ moment_of c = c.moment
 -- its sender and its bytes tell. Where a status is told, the response to what the peer sent was
 -- written, at the connection's moment, and it left the book so. Else the reader failed, and the
 -- book is as it was; or the writer did, and the book is as the request left it.
-pub record IsServedOn (audience : Audience) (old new : Standing) (c : Connection) : Type 0 where
+pub record IsServedOn (access : Access) (old new : Standing) (c : Connection) : Type 0 where
   pub known : Option (List ℕ)
   pub before : Option (List ℕ)
   pub later : Option (List ℕ)
   pub reads : ℕ × ℕ
   pub writes : ℕ × ℕ
   pub written : IfOk c.served.outcome
-      (λ status. IsResponseWritten audience old new known c.moment before later status c.served.line
+      (λ status. IsResponseWritten access old new known c.moment before later status c.served.line
       c.served.sender c.served.bytes)
   pub stopped : OnErr c.served.outcome
       (IsUnread old new known before later reads.0 reads.1 c.served.line c.served.sender
       c.served.bytes
-      ⊎ IsUnwritten audience old new known c.moment before later writes.0 writes.1 c.served.line
+      ⊎ IsUnwritten access old new known c.moment before later writes.0 writes.1 c.served.line
       c.served.sender c.served.bytes)
 
 -- A connection that couldn't be accepted: nothing of it is known.
@@ -45,16 +45,16 @@ pub record IsNotAccepted (c : Connection) : Type 0 where
 
 -- what became of a connection, by whether it has a peer, and of the book meanwhile, which is as it
 -- was where it has none
-abbrev pub IsConnection : Audience → Standing → Standing → Connection → Type 0
-IsConnection audience old new c =
+abbrev pub IsConnection : Access → Standing → Standing → Connection → Type 0
+IsConnection access old new c =
     MatchOption c.peer (IsUnchanged old new
-    × IsNotAccepted c) (λ peer. IsServedOn audience old new c)
+    × IsNotAccepted c) (λ peer. IsServedOn access old new c)
 
 -- the same of a book that needn't be opened again before it; no count falls meanwhile
-pub record IsServed (audience : Audience) (old new : Standing) (c : Connection) : Type 0 where
+pub record IsServed (access : Access) (old new : Standing) (c : Connection) : Type 0 where
   pub serves : old.shut ≡ false
   pub goes : GoesOn old new
-  pub became : IsConnection audience old new c
+  pub became : IsConnection access old new c
 
 -- A clock was asked so often, and as many connections were handed to a closure, one after the
 -- other, each with the moment that the clock gave for it. This took the clock and the closure from

@@ -1,12 +1,12 @@
 -- What a request is answered, and what it leaves of the book.
-use Rattle.std.specs.Prelude.{◌≡◌, ◌⊎◌, ℕ, Bool, true, false, List, ◌++◌, Option, Some, None, IfSome, option_map, length}
+use Rattle.std.specs.Prelude.{◌≡◌, ◌⊎◌, ℕ, Bool, true, false, List, ◌++◌, Option, Some, None, IfSome, length}
 use Rattle.httparse.specs.Grammar.{RequestHead}
 use Rattle.profile.specs.declared.rules.Rules.TheVariants.{Two}
 use Rattle.profile.specs.Moments.{Moment}
 use Rattle.profile.specs.Header.{Who}
-use Rattle.profile.specs.Register.{Command, Entry, Interchange}
+use Rattle.profile.specs.Register.{Command, Entry}
 use Rattle.profile.specs.Accepted.{is_accepted, reply_to, after}
-use Rattle.profile.specs.Response.{Method, Route, Response, fault_response, resp, response_to, submitted, response_bytes}
+use Rattle.profile.specs.Response.{Method, Route, Response, fault_response, resp, response_bytes}
 use Rattle.store.specs.Standing.{Standing, IsUsable, IsUnchanged, IsFault, GoesOn, LeavesEither, OfKept, OfUsable}
 use Rattle.store.specs.Fault.{Fault}
 use Rattle.std.specs.Io.KnownBytes.{Appends}
@@ -14,38 +14,13 @@ use Rattle.gauges.specs.Gauges.{Grew, AppendsBeginning}
 use Rattle.intake.specs.Asking.{asks_in, route_asks, call_asks, target_asks, IsShutAnswer, IsShutResponse}
 use Rattle.gauges.specs.Inputs.{IsInput}
 use Rattle.intake.specs.Requests.{HasRequestHead, HasNoHead}
-use Rattle.intake.specs.Fields.{head_of}
 use Rattle.intake.specs.Lines.{TellsOf, HasLine, TellsSender}
-use Rattle.intake.specs.Calls.{Call, call_of, call_command, call_resp}
-use Rattle.intake.specs.Targets.{Target, ToCall, asked_with, command_with, handed_in, response_with, target_command, target_resp}
+use Rattle.intake.specs.Admitting.{answer_by, answer_of, asks_by, command_by, command_in}
+use Rattle.intake.specs.Calls.{Call, call_command, call_resp}
+use Rattle.intake.specs.Targets.{Target, handed_in, target_command, target_resp}
+use Rattle.intake.specs.declared.audience.Access.{Access}
 use Rattle.intake.specs.declared.audience.Audience.{Audience}
-use Rattle.intake.specs.declared.audience.Audience.TheVariants.{Partners, Clerks}
 use Rattle.intake.specs.declared.served.RequestLine.{RequestLine}
-
--- What is asked for: by partners an interchange or a route, as ever; by clerks the same, but where
--- a path calls for something.
-
-abbrev pub call_submitted : Option Call → RequestHead → List ℕ → Option Command
-call_submitted None h rest = option_map Interchange (submitted (Some (head_of h)) rest)
-call_submitted (Some call) h rest =
-    command_with (head_of h).method (ToCall call) (asked_with (head_of h) (ToCall call) rest)
-
-abbrev pub call_answer : Option Call → Who → List Entry → RequestHead → List ℕ → Moment → Response
-call_answer None W L h rest t = response_to Two W L (Some (head_of h)) rest t
-call_answer (Some call) W L h rest t =
-    response_with W L (head_of h).method (ToCall call) t (asked_with (head_of h) (ToCall call) rest)
-
--- the command that a request submits, by its head, if that is good, and the bytes after it
-abbrev pub command_in : Audience → Option RequestHead → List ℕ → Option Command
-command_in Partners head rest = option_map Interchange (submitted (option_map head_of head) rest)
-command_in Clerks None rest = None
-command_in Clerks (Some h) rest = call_submitted (call_of h.target) h rest
-
--- the response to it
-abbrev pub answer_of : Audience → Who → List Entry → Option RequestHead → List ℕ → Moment → Response
-answer_of Partners W L head rest t = response_to Two W L (option_map head_of head) rest t
-answer_of Clerks W L None rest t = response_to Two W L None rest t
-answer_of Clerks W L (Some h) rest t = call_answer (call_of h.target) W L h rest t
 
 -- The response of the definitions, over a register that the book keeps. The book is left as the
 -- command that was submitted leaves it; where none was, or it isn't accepted now, the book is as it
@@ -111,10 +86,11 @@ abbrev pub BeginsWith : List ℕ → Option RequestHead → List ℕ → Type 0
 BeginsWith input None rest = HasNoHead input
 BeginsWith input (Some h) rest = HasRequestHead input h rest
 
--- the response to what a reader has, with what became of the book, and what is told of the head and
--- of the sender; a book that has to be opened again answers as `IsShutAnswer` says
+-- The response to what a reader has, with what became of the book, and what is told of the head and
+-- of the sender. A request that is turned away by its head submits nothing and asks nothing. A book
+-- that has to be opened again answers as `IsShutAnswer` says.
 pub record IsExchange
-    (audience : Audience) (old new : Standing) (known : Option (List ℕ)) (t : Moment) (r : Response)
+    (access : Access) (old new : Standing) (known : Option (List ℕ)) (t : Moment) (r : Response)
     (line : Option RequestLine) (sender : Option Who) : Type 0 where
   pub input : List ℕ
   pub is_input : IsInput known input
@@ -122,12 +98,12 @@ pub record IsExchange
   pub rest : List ℕ
   pub begins : BeginsWith input head rest
   pub told : TellsOf line head
-  pub sent : TellsSender sender (command_in audience head rest) r
-  pub answered : IsAnswered old new t (command_in audience head rest)
-      (λ L. answer_of audience old.warehouse L head rest t) r
-  pub shut : IsShutAnswer old (asks_in audience head rest) r
+  pub sent : TellsSender sender (command_by access head rest) r
+  pub answered : IsAnswered old new t (command_by access head rest)
+      (λ L. answer_by access old.warehouse L head rest t) r
+  pub shut : IsShutAnswer old (asks_by access head rest) r
 
--- the same of a request whose head was read, with the first bytes of what is after it
+-- the same of a request whose head was read and that isn't turned away, with the first bytes of what is after it
 pub record IsExchangeAfter
     (audience : Audience) (old new : Standing) (known : Option (List ℕ)) (t : Moment)
     (h : RequestHead) (start : List ℕ) (r : Response) (sender : Option Who) : Type 0 where
@@ -141,11 +117,11 @@ pub record IsExchangeAfter
 -- A response was written: it was that to what the reader had. What is told is its status, the line
 -- of the request, who sent the interchange that was handed in, and how many bytes the response has.
 pub record IsResponseWritten
-    (audience : Audience) (old new : Standing) (known : Option (List ℕ)) (t : Moment)
+    (access : Access) (old new : Standing) (known : Option (List ℕ)) (t : Moment)
     (before later : Option (List ℕ)) (status : ℕ) (line : Option RequestLine) (sender : Option Who)
     (bytes : ℕ) : Type 0 where
   pub response : Response
-  pub exchange : IsExchange audience old new known t response line sender
+  pub exchange : IsExchange access old new known t response line sender
   pub status_of : status ≡ response.status
   pub whole : Appends before later (response_bytes response)
   pub counted : bytes ≡ length (response_bytes response)
@@ -165,10 +141,10 @@ pub record IsUnread
 -- The writer failed: a beginning of the response was written, of so many bytes, and the book is as
 -- the request left it.
 pub record IsUnwritten
-    (audience : Audience) (old new : Standing) (known : Option (List ℕ)) (t : Moment)
+    (access : Access) (old new : Standing) (known : Option (List ℕ)) (t : Moment)
     (before later : Option (List ℕ)) (errors more : ℕ) (line : Option RequestLine)
     (sender : Option Who) (bytes : ℕ) : Type 0 where
   pub response : Response
-  pub exchange : IsExchange audience old new known t response line sender
+  pub exchange : IsExchange access old new known t response line sender
   pub beginning : AppendsBeginning before later (response_bytes response) bytes
   pub grew : Grew errors more

@@ -8,7 +8,8 @@ ghost use Rattle.profile.specs.Response.{asked, Nowhere};
 ghost use Rattle.intake.specs.Calls.{call_of};
 ghost use Rattle.intake.specs.Fields.{head_of};
 ghost use Rattle.intake.specs.Routes.{route_of};
-ghost use Rattle.intake.specs.Serving.{BeginsWith, command_in, answer_of};
+ghost use Rattle.intake.specs.Admitting.{answer_of, command_in};
+ghost use Rattle.intake.specs.Serving.{BeginsWith};
 ghost use Rattle.intake.specs.declared.audience.Audience.{Audience};
 ghost use Rattle.intake.specs.declared.audience.Audience.TheVariants.{Partners, Clerks};
 

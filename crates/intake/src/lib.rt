@@ -23,7 +23,8 @@ mod slips;
 mod targets;
 mod texts;
 
-pub use audience::Audience;
+pub use audience::{Access, Audience};
+pub use doors::Doors;
 pub use folders::{
     FileOutcome, FolderStop, PassedOver, Taken, TakenFolder, WhyPassed, read_first,
     read_interchange, take_folder, take_folder_telling,

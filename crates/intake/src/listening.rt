@@ -1,8 +1,9 @@
 ghost use Rattle.std.specs.Prelude.{◌≡◌, ◌⊎◌, ◌≤◌, ℕ, Some, None, true, false, OnOk, OnErr, IfOk, IfErr, IsErrOf};
 ghost use Rattle.store.specs.Standing.{GoesOn};
+ghost use Rattle.intake.specs.Admitting.{of_partners};
 ghost use Rattle.intake.specs.Connections.{HasTold, IsConnection, IsNotAccepted, IsConnectionOutcome, IsServed, IsServedOn};
 
-use crate::audience::Audience;
+use crate::audience::{Access, OF_PARTNERS};
 use crate::patience::{Patience, Patient, StoppedClock};
 use crate::served::{Connection, Served};
 use crate::serving::serve_telling;
@@ -51,20 +52,21 @@ fn serve_on<K: Keeper, Q: Clock>(
     stream: &TcpStream,
     peer: SocketAddr,
     keeper: &mut K,
-    audience: Audience,
+    access: Access<'_>,
     moment: Moment,
     patience: &Patience<'_, Q>,
 ) -> Connection
     ensures moment { result.moment ≡ moment }
     ensures peer { result.peer ≡ Some peer }
     ensures outcome { IsConnectionOutcome result }
-    ensures served { IsServedOn audience (K.standing keeper.old) (K.standing keeper.new) result }
+    ensures served { IsServedOn access.entry (K.standing keeper.old) (K.standing keeper.new)
+        result }
     ensures goes { GoesOn (K.standing keeper.old) (K.standing keeper.new) }
 {
     let begun = Instant::now(patience.timer).ok();
     let mut reader = Gauge::new(Patient::new(stream, patience.timer, patience.limit));
     let mut writer = Gauge::new(Patient::new(stream, patience.timer, patience.limit));
-    let served = serve_telling(alloc, &mut reader, &mut writer, keeper, audience, moment);
+    let served = serve_telling(alloc, &mut reader, &mut writer, keeper, access, moment);
     let millis = millis_since(patience.timer, begun);
     if served.outcome.is_ok() {
         read_the_rest(stream, patience.timer);
@@ -103,7 +105,7 @@ fn serve_next<K: Keeper, Q: Clock>(
     alloc: Global,
     accepted: io::Result<(TcpStream, SocketAddr)>,
     keeper: &mut K,
-    audience: Audience,
+    access: Access<'_>,
     moment: Moment,
     patience: &Patience<'_, Q>,
 ) -> Connection
@@ -111,17 +113,18 @@ fn serve_next<K: Keeper, Q: Clock>(
     ensures peer { IfOk accepted (λ a. result.peer ≡ Some a.1) }
     ensures nobody { OnErr accepted (result.peer ≡ None) }
     ensures outcome { IsConnectionOutcome result }
-    ensures served { IsConnection audience (K.standing keeper.old) (K.standing keeper.new) result }
+    ensures served { IsConnection access.entry (K.standing keeper.old) (K.standing keeper.new)
+        result }
     ensures goes { GoesOn (K.standing keeper.old) (K.standing keeper.new) }
 {
     match accepted {
-        Ok((stream, peer)) => serve_on(alloc, &stream, peer, keeper, audience, moment, patience),
+        Ok((stream, peer)) => serve_on(alloc, &stream, peer, keeper, access, moment, patience),
         Err(_) => not_accepted(moment),
     }
 }
 
-/// Serves that many connections to that audience, one after the other, each at the moment that
-/// `clock` gives once it is accepted, and hands each to `told` with what became of its request: the
+/// Serves that many connections to those who have access, one after the other, each at the moment
+/// that `clock` gives once it is accepted, and hands each to `told` with what became of it: the
 /// status that was answered, or Device (44). A request or a response that takes longer than the
 /// patience is Device too. An accept that fails is Device at the moment that `clock` gives then,
 /// and counts as a connection.
@@ -145,7 +148,7 @@ pub fn serve_within<
     listener: &TcpListener,
     count: u16,
     keeper: &mut K,
-    audience: Audience,
+    access: Access<'_>,
     mut clock: C,
     mut told: T,
     mut admits: A,
@@ -161,10 +164,10 @@ pub fn serve_within<
     ensures opened { OnOk result ((K.standing keeper.new).shut ≡ false) }
     ensures shut { IsErrOf result Fault.Reopen → (K.standing keeper.new).shut ≡ true }
     ensures served { OnOk result ((after : C) × (last : T)
-        × HasTold (λ book c left. IsServed audience (K.standing book) (K.standing left) c)
+        × HasTold (λ book c left. IsServed access.entry (K.standing book) (K.standing left) c)
         C.step (λ p x q. T.step p x tt q) keeper.old keeper.new clock after told last count) }
     ensures ended { OnErr result ((n : ℕ) × (n ≤ count) × ((after : C) × (last : T)
-        × HasTold (λ book c left. IsServed audience (K.standing book) (K.standing left) c)
+        × HasTold (λ book c left. IsServed access.entry (K.standing book) (K.standing left) c)
         C.step (λ p x q. T.step p x tt q) keeper.old keeper.new clock after told last n)) }
 {
     for _ in 0..count {
@@ -176,7 +179,7 @@ pub fn serve_within<
             return Err(Fault::Device);
         }
         let moment = clock();
-        let connection = serve_next(alloc, accepted, keeper, audience, moment, patience);
+        let connection = serve_next(alloc, accepted, keeper, access, moment, patience);
         told(connection);
     }
     if keeper.must_reopen() {
@@ -203,10 +206,10 @@ pub fn serve_count<K: Keeper, C: FnMut() -> Moment, T: FnMut(Connection)>(
     ensures opened { OnOk result ((K.standing keeper.new).shut ≡ false) }
     ensures shut { OnErr result ((K.standing keeper.new).shut ≡ true) }
     ensures served { OnOk result ((after : C) × (last : T)
-        × HasTold (λ book c left. IsServed Audience.Partners (K.standing book) (K.standing left) c)
+        × HasTold (λ book c left. IsServed of_partners (K.standing book) (K.standing left) c)
         C.step (λ p x q. T.step p x tt q) keeper.old keeper.new clock after told last count) }
     ensures ended { OnErr result ((n : ℕ) × (n ≤ count) × ((after : C) × (last : T)
-        × HasTold (λ book c left. IsServed Audience.Partners (K.standing book) (K.standing left) c)
+        × HasTold (λ book c left. IsServed of_partners (K.standing book) (K.standing left) c)
         C.step (λ p x q. T.step p x tt q) keeper.old keeper.new clock after told last n)) }
 {
     let patience = Patience {
@@ -218,7 +221,7 @@ pub fn serve_count<K: Keeper, C: FnMut() -> Moment, T: FnMut(Connection)>(
         listener,
         count,
         keeper,
-        Audience::Partners,
+        OF_PARTNERS,
         clock,
         told,
         || true,

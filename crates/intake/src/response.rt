@@ -13,6 +13,8 @@ pub enum Status {
     NoContent,
     /// 400
     BadRequest,
+    /// 403
+    Forbidden,
     /// 404
     NotFound,
     /// 405
@@ -23,6 +25,8 @@ pub enum Status {
     LengthRequired,
     /// 413
     PayloadTooLarge,
+    /// 421
+    MisdirectedRequest,
     /// 422
     UnprocessableEntity,
     /// 501
@@ -40,11 +44,13 @@ impl Status {
             Status::Okay => StatusCode::OK,
             Status::NoContent => StatusCode::NO_CONTENT,
             Status::BadRequest => StatusCode::BAD_REQUEST,
+            Status::Forbidden => StatusCode::FORBIDDEN,
             Status::NotFound => StatusCode::NOT_FOUND,
             Status::MethodNotAllowed => StatusCode::METHOD_NOT_ALLOWED,
             Status::Conflict => StatusCode::CONFLICT,
             Status::LengthRequired => StatusCode::LENGTH_REQUIRED,
             Status::PayloadTooLarge => StatusCode::PAYLOAD_TOO_LARGE,
+            Status::MisdirectedRequest => StatusCode::MISDIRECTED_REQUEST,
             Status::UnprocessableEntity => StatusCode::UNPROCESSABLE_ENTITY,
             Status::NotImplemented => StatusCode::NOT_IMPLEMENTED,
             Status::ServiceUnavailable => StatusCode::SERVICE_UNAVAILABLE,
@@ -119,11 +125,13 @@ fn status_line(status: Status) -> &'static [u8]
         Status::Okay => b"200 OK\n",
         Status::NoContent => b"204 No Content\n",
         Status::BadRequest => b"400 Bad Request\n",
+        Status::Forbidden => b"403 Forbidden\n",
         Status::NotFound => b"404 Not Found\n",
         Status::MethodNotAllowed => b"405 Method Not Allowed\n",
         Status::Conflict => b"409 Conflict\n",
         Status::LengthRequired => b"411 Length Required\n",
         Status::PayloadTooLarge => b"413 Payload Too Large\n",
+        Status::MisdirectedRequest => b"421 Misdirected Request\n",
         Status::UnprocessableEntity => b"422 Unprocessable Entity\n",
         Status::NotImplemented => b"501 Not Implemented\n",
         Status::ServiceUnavailable => b"503 Service Unavailable\n",

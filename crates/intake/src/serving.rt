@@ -1,14 +1,16 @@
-ghost use Rattle.std.specs.Prelude.{◌≡◌, ◌⊎◌, ℕ, Option, length, drop, OnErr, OnOk, IfOk, IfErr, IfSome, string_bytes};
+ghost use Rattle.std.specs.Prelude.{◌≡◌, ◌⊎◌, ℕ, Option, length, drop, OnErr, OnOk, IfOk, IfErr, IfSome, option_map, string_bytes};
 ghost use Rattle.httparse.specs.Grammar.{RequestHead};
 ghost use Rattle.httparse.specs.Spans.{IsRequestWithin, IsRequestAt};
 ghost use Rattle.profile.specs.Header.{Who as Partner};
 ghost use Rattle.store.specs.Standing.{IsUnchanged, GoesOn};
-ghost use Rattle.intake.specs.Answers.{seen};
+ghost use Rattle.doors.specs.Doors.{status_of};
+ghost use Rattle.intake.specs.Admitting.{barred_at, of_partners};
+ghost use Rattle.intake.specs.Answers.{number, seen};
 ghost use Rattle.gauges.specs.Gauges.{Grew};
 ghost use Rattle.intake.specs.Lines.{IsLineAt, HasLine};
 ghost use Rattle.intake.specs.Serving.{IsExchange, IsExchangeAfter, IsResponseWritten, IsUnread, IsUnwritten};
 
-use crate::audience::Audience;
+use crate::audience::{Access, Audience, OF_PARTNERS};
 use crate::heading::{length_of, read_method};
 use crate::reading::{Content, Unread, read_body, read_head};
 use crate::replies::of_fault;
@@ -17,6 +19,7 @@ use crate::senders::{Replied, answer_at, unsent};
 use crate::served::{RequestLine, Served};
 use crate::targets::{find_target, has_body};
 use crate::texts::write_response;
+use doors::{Barred, Doors, judge_head};
 use fields::{MOST_FIELDS, MOST_HEAD, is_among, values_of};
 use gauges::Gauge;
 use http::StatusCode;
@@ -110,17 +113,37 @@ struct Received {
     line: Option<RequestLine>,
 }
 
-// Reads one request, and answers it. The copy of its line is made last, so that it takes no memory
-// that the answer needs.
+// The status by which the doors turn a request away whose head was read, if they do.
+fn barred(
+    doors: Option<Doors<'_>>,
+    got: &[u8],
+    fields: &[HeaderSpan],
+    spans: &RequestSpans,
+) -> Option<Status>
+    requires { IsRequestWithin got.now fields.now spans.now }
+
+    ensures { (h : RequestHead) → IsRequestAt got.now fields.now spans.now h
+        → option_map number result ≡ option_map status_of (barred_at doors.entry h) }
+{
+    let barred = judge_head(doors?, spans.method.of(got), got, &fields[..spans.headers])?;
+    Some(match barred {
+        Barred::BadRequest => Status::BadRequest,
+        Barred::Misdirected => Status::MisdirectedRequest,
+        Barred::Forbidden => Status::Forbidden,
+    })
+}
+
+// Reads one request, and answers it, or turns it away by its head. The copy of its line is made
+// last, so that it takes no memory that the answer needs.
 fn receive<R: Read, K: Keeper>(
     alloc: Global,
     reader: &mut Gauge<R>,
     keeper: &mut K,
-    audience: Audience,
+    access: Access<'_>,
     moment: Moment,
 ) -> Received
     ensures answered { IfOk result.replied (λ replied.
-        IsExchange audience (K.standing keeper.old) (K.standing keeper.new)
+        IsExchange access.entry (K.standing keeper.old) (K.standing keeper.new)
         (R.remaining reader.old.inner) moment (seen replied.response) result.line replied.sender) }
     ensures line { OnErr result.replied (IfSome result.line
         (HasLine (R.remaining reader.old.inner))) }
@@ -147,14 +170,30 @@ fn receive<R: Read, K: Keeper>(
         },
     };
     let got = &buf[..begun.filled];
-    let replied = answer(alloc, reader, keeper, audience, got, &fields, spans, moment);
+    if let Some(status) = barred(access.doors, got, &fields, spans) {
+        return Received {
+            replied: Ok(unsent(bare_response(status))),
+            line: copied_line(alloc, got, &fields, spans),
+        };
+    }
+    let replied = answer(
+        alloc,
+        reader,
+        keeper,
+        access.audience,
+        got,
+        &fields,
+        spans,
+        moment,
+    );
     let line = copied_line(alloc, got, &fields, spans);
     Received { replied, line }
 }
 
 /// Reads one request, writes its response, and tells what became of them. The tests of a request
 /// come in this order: a head that is refused, cut off or too large, over 8,192 bytes or 32 fields,
-/// is 400; a Transfer-Encoding field 501; no route 404; another method 405; for an interchange no
+/// is 400; one that the doors turn away 400, 421 or 403 (`judge_head`), and nothing is asked of the
+/// book; a Transfer-Encoding field 501; no route 404; another method 405; for an interchange no
 /// Content-Length 411, more than one, an empty one or not all digits 400, above 1,048,576 413, and
 /// a body that is cut off 400. Where clerks are served too, a deed with its sheet is tested as an
 /// interchange, and then: a part of its path that can't be read is 404, a text that is no sheet
@@ -171,11 +210,11 @@ pub fn serve_telling<R: Read, W: Write, K: Keeper>(
     reader: &mut Gauge<R>,
     writer: &mut Gauge<W>,
     keeper: &mut K,
-    audience: Audience,
+    access: Access<'_>,
     moment: Moment,
 ) -> Served
     ensures written { IfOk result.outcome (λ status.
-        IsResponseWritten audience (K.standing keeper.old) (K.standing keeper.new)
+        IsResponseWritten access.entry (K.standing keeper.old) (K.standing keeper.new)
         (R.remaining reader.old.inner) moment
         (W.contents writer.old.inner) (W.contents writer.new.inner) status result.line result.sender
         result.bytes) }
@@ -183,7 +222,7 @@ pub fn serve_telling<R: Read, W: Write, K: Keeper>(
         IsUnread (K.standing keeper.old) (K.standing keeper.new) (R.remaining reader.old.inner)
         (W.contents writer.old.inner) (W.contents writer.new.inner)
         reader.old.errors reader.new.errors result.line result.sender result.bytes
-        ⊎ IsUnwritten audience (K.standing keeper.old) (K.standing keeper.new)
+        ⊎ IsUnwritten access.entry (K.standing keeper.old) (K.standing keeper.new)
         (R.remaining reader.old.inner) moment
         (W.contents writer.old.inner) (W.contents writer.new.inner)
         writer.old.errors writer.new.errors result.line result.sender result.bytes) }
@@ -192,7 +231,7 @@ pub fn serve_telling<R: Read, W: Write, K: Keeper>(
     ensures fault { IfErr result.outcome (λ fault. fault ≡ Fault.Device) }
     ensures goes { GoesOn (K.standing keeper.old) (K.standing keeper.new) }
 {
-    let Received { replied, line } = receive(alloc, reader, keeper, audience, moment);
+    let Received { replied, line } = receive(alloc, reader, keeper, access, moment);
     let Ok(replied) = replied else {
         return Served {
             outcome: Err(Fault::Device),
@@ -228,7 +267,7 @@ pub fn serve_one<R: Read, W: Write, K: Keeper>(
 ) -> Result<StatusCode, Fault>
     ensures written { IfOk result
         (λ status. (line : Option RequestLine) × (sender : Option Partner) × (bytes : ℕ)
-        × IsResponseWritten Audience.Partners (K.standing keeper.old) (K.standing keeper.new)
+        × IsResponseWritten of_partners (K.standing keeper.old) (K.standing keeper.new)
         (R.remaining reader.old.inner) moment
         (W.contents writer.old.inner) (W.contents writer.new.inner) status line sender bytes) }
     ensures stopped { OnErr result ((line : Option RequestLine) × (sender : Option Partner)
@@ -236,7 +275,7 @@ pub fn serve_one<R: Read, W: Write, K: Keeper>(
         IsUnread (K.standing keeper.old) (K.standing keeper.new) (R.remaining reader.old.inner)
         (W.contents writer.old.inner) (W.contents writer.new.inner)
         reader.old.errors reader.new.errors line sender bytes
-        ⊎ IsUnwritten Audience.Partners (K.standing keeper.old) (K.standing keeper.new)
+        ⊎ IsUnwritten of_partners (K.standing keeper.old) (K.standing keeper.new)
         (R.remaining reader.old.inner) moment
         (W.contents writer.old.inner) (W.contents writer.new.inner)
         writer.old.errors writer.new.errors line sender bytes)) }
@@ -245,5 +284,5 @@ pub fn serve_one<R: Read, W: Write, K: Keeper>(
     ensures fault { IfErr result (λ fault. fault ≡ Fault.Device) }
     ensures goes { GoesOn (K.standing keeper.old) (K.standing keeper.new) }
 {
-    serve_telling(alloc, reader, writer, keeper, Audience::Partners, moment).outcome
+    serve_telling(alloc, reader, writer, keeper, OF_PARTNERS, moment).outcome
 }

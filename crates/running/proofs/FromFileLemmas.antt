@@ -20,10 +20,11 @@ use Rattle.commands.specs.declared.told.CommandError.{CommandError}
 use Rattle.commands.specs.declared.told.ExitStatus.{ExitStatus}
 use Rattle.running.specs.Done.{IsBegun, IsNotBegun, IsJobDone, IsJobStopped}
 use Rattle.running.specs.FromFile.{HoldsBook, IsOfBook, IsDoneFrom, IsStoppedFrom}
-use Rattle.running.specs.Opening.{IsNotOpened, IsOfFile}
+use Rattle.running.specs.Opening.{IsNotMade, IsNotOpened, IsOfFile}
 use Rattle.running.specs.Working.{IsWork}
 use Rattle.running.specs.declared.over_file.Job.{Job}
 use Rattle.running.specs.declared.over_file.Job.TheVariants as job
+use Rattle.running.proofs.NothingLemmas.{no_table}
 use Rattle.running.proofs.StopLemmas.{stands_as_read, still_carried}
 
 -- the database that files open as stands for the book that they held
@@ -111,4 +112,9 @@ module _ {S W : Type 0} (store : Ghosts S) (contents : W → Option (List ℕ)) 
           (subst (λ h. StandsOpenAs One (state store is.tables.conn) W L → AllStandAs One (state store is.tables.conn) W L → (db : Trees) → (state store h).may_leave db → LeavesCarried W L db) is.after
           (let why = is.why in why.carried (subst (λ h. HasCleanDisk (state store h)) (sym is.after) clean) W L)) in
           still_carried (state store database) (state store left) q W L clean opened.0.is_open here all asked carried;
+      free = λ no V is clean nothing other.
+          let why : IsNotMade store database left V no.fault = subst (λ k. IsNotBegun store database left k no.fault) is no.why in
+          let taken = why.taken other in
+          let early : HasCleanDisk (state store database) = subst (λ h. HasCleanDisk (state store h)) taken.0 clean in
+          taken.1 (no_table image (state store database) (opens early) (found early) nothing);
     }

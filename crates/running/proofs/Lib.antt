@@ -1,5 +1,7 @@
 mod BeginLemmas
 mod StopLemmas
+mod NothingLemmas
+mod UnopenedLemmas
 mod FromFileLemmas
 mod LeftLemmas
 mod CrossLemmas

@@ -1,5 +1,5 @@
 -- How a line of words ended, from what the files of its book held.
-use Rattle.std.specs.Prelude.{◌≡◌, ◌⊎◌, ℕ, true, List, Option, Some, Result, Ok, Err, OnOk, map}
+use Rattle.std.specs.Prelude.{◌≡◌, ◌⊎◌, Bool, ℕ, true, false, List, Option, Some, Result, Ok, Err, OnOk, map}
 use Rattle.std.specs.Borrow.{Bor}
 use Rattle.sqlite_disk.specs.declared.Disk.{Ghosts as Disks}
 use Rattle.sqlite.specs.Recovery.{Image}
@@ -27,6 +27,12 @@ abbrev pub IsToldAs : Ending → Ending → Type 0
 IsToldAs (Ok status) (Ok told) = told ≡ status
 IsToldAs (Err stop) (Err told) = fault_in told ≡ fault_in stop
 IsToldAs first other = ⊥
+
+-- whether the words of a line, over a book in its file, say that nothing is supposed of what its disk
+-- leaves of a torn write
+abbrev pub says_wary : Words → Bool
+says_wary (words.Over (Some file) opening task) = opening.is_wary
+says_wary other = false
 
 -- the exit status of an ending
 abbrev pub status_of_ending : Ending → ExitStatus
@@ -73,7 +79,7 @@ module _ {D : Type 0} {disk : Disks D} where
 
     -- what words of a line over a book in its file came to; others open no book
     abbrev pub IsWordsEnded : Words → W → W → Ending → FilesLeft D disk → Type 0
-    IsWordsEnded (words.Over (Some file) wait task) before later ending files =
+    IsWordsEnded (words.Over (Some file) opening task) before later ending files =
         IsTaskEnded task before later ending files
     IsWordsEnded other before later ending files = files ≡ left.Untouched
 

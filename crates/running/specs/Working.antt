@@ -11,7 +11,7 @@ use Rattle.commands.specs.Files.{IsWithin, Reads}
 use Rattle.commands.specs.Looking.{IsAskedFor, IsLook, is_readable}
 use Rattle.commands.specs.Playing.{HasPlayed, HasStopped, asking}
 use Rattle.commands.specs.Readying.{IsMadeReady, IsUnready}
-use Rattle.commands.specs.Serving.{HasServed, HasServedUpTo, audience_of}
+use Rattle.commands.specs.Serving.{HasServed, HasServedUpTo, access_of}
 use Rattle.commands.specs.declared.files.TheConstants.{MOST_SCRIPT}
 use Rattle.commands.specs.declared.told.ExitStatus.TheVariants.{Done}
 use Rattle.running.specs.declared.over_file.Job.{Job}
@@ -60,9 +60,9 @@ abbrev pub IsService : {K : Type 0} → (K → Standing) → Service → Moment 
     → Type 0
 IsService standing service first has_clock old new ending =
     OnOk ending
-    (HasServed standing (audience_of service.clerks) has_clock first old new service.count)
+    (HasServed standing (access_of service) has_clock first old new service.count)
     × OnErr ending
-    (HasServedUpTo standing (audience_of service.clerks) has_clock first old new service.count)
+    (HasServedUpTo standing (access_of service) has_clock first old new service.count)
 
 -- What a job comes to over a book: what was made ready was done at its moment, what was asked for
 -- was shown, a text was played, a server served. Where the job is to make the book or to check it,

@@ -33,7 +33,7 @@ pub enum Job<'a> {
     Play(String),
     /// Serve it over HTTP, from a first moment on, and by the clock or not, while its name leads to
     /// this file.
-    Listen(Service, Moment, bool, ServedFile<'a>),
+    Listen(Service<'a>, Moment, bool, ServedFile<'a>),
     /// Compare every table with what the register gives.
     Check,
 }

@@ -1,11 +1,13 @@
-ghost use Rattle.std.specs.Prelude.{◌≡◌, true, false, ℕ, List, IfErr, OnOk};
+ghost use Rattle.std.specs.Prelude.{◌≡◌, true, false, ℕ, List, IfErr, OnOk, map};
 ghost use Rattle.std.specs.Borrow.{Bor};
 ghost use Rattle.std.specs.List.{list_any};
 ghost use Rattle.std.specs.Io.KnownBytes.{Appends};
 ghost use Rattle.commands.specs.Statuses.{IsCode};
 ghost use Rattle.commands.specs.Stops.{IsDeviceStop};
 ghost use Rattle.sqlite.specs.WalFiles.{image_at};
-ghost use Rattle.running.specs.Ended.{IsLineEnded, IsProgramRun, IsWordsEnded};
+ghost use Rattle.running.specs.Ended.{IsLineEnded, IsProgramRun, IsWordsEnded, says_wary};
+ghost use Rattle.command_line.specs.Asked.{IsLineRead};
+ghost use Rattle.command_line.specs.declared.words.Place.TheVariants.{Program};
 ghost use Rattle.running.specs.Explaining.{AsksWhy, ends_options};
 
 use crate::from_file::{Ended, FilesLeft};
@@ -13,7 +15,8 @@ use crate::over_server::run_over_server;
 use crate::waiting::{ended_before, run_over_file};
 use command_line::{LineFault, Place, Words, line};
 use commands::{CommandError, ExitStatus, Verbosity, run_script, tell_stop, usage};
-use sqlite::{FileFrom, Start, Unknown};
+use sqlite::{FileFrom, Start, Unknown, Wary};
+use std::alloc::Global;
 use std::io::{self, IsTerminal};
 
 // The program's version, which is that of the rules by which it judges.
@@ -37,9 +40,9 @@ fn run_words<S: Start, F: FnMut() -> S, W: io::Write, E: io::Write>(
         Words::Script { file } => ended_before(run_script(rt, file, verbosity, out, err)),
         Words::Over {
             book: Some(file),
-            wait,
+            opening,
             task,
-        } => run_over_file(rt, file, *wait, starts, task, verbosity, out, err),
+        } => run_over_file(rt, file, opening.wait, starts, task, verbosity, out, err),
         // No line of the program comes to this: where it names no server, it names a book.
         Words::Over { book: None, .. } => {
             ended_before(Err(usage(rt.alloc(), "--book is missing\n")))
@@ -171,12 +174,42 @@ pub fn command_from<S: Start, F: FnMut() -> S, W: io::Write, E: io::Write>(
     }
 }
 
+// Whether what a line asks for is over a file of whose disk nothing is supposed.
+fn says_wary(asked: &Words<'_>) -> bool
+    ensures { result ≡ says_wary asked.now }
+{
+    match asked {
+        Words::Over {
+            book: Some(_),
+            opening,
+            ..
+        } => opening.is_wary,
+        _ => false,
+    }
+}
+
+// Whether a line that can be read says that nothing is supposed of what its disk leaves of a torn
+// write. The words are looked at first, since few lines say so, and reading one takes its time.
+fn is_wary(alloc: Global, words: &[&str]) -> bool
+    ensures { result ≡ true → (asked : Words) × IsLineRead Program (map (λ w. w.now) words.now)
+        asked × (says_wary asked ≡ true) }
+{
+    if !words.iter().any(|word| *word == "--wary") {
+        return false;
+    }
+    let Ok(asked) = line(alloc, Place::Program, &*words) else {
+        return false;
+    };
+    says_wary(&asked)
+}
+
 /// Runs one line of words, without the program's name: its output goes to `out`, its refusals and
 /// faults to `err`. Where the last word is `--explain`, and on a terminal, what a fault or a
 /// refused sheet is about is told after it. The exit status is 0 where all was done or help was
 /// shown, 1 where something was refused, 2 where the words can't be read, 3 at a fault.
 ///
-/// Of the book's file it is supposed that a torn write leaves each byte old or new (`Unknown`).
+/// Of the book's file it is supposed that a torn write leaves each byte old or new (`Unknown`);
+/// where the line says `--wary`, nothing is (`Wary`).
 pub fn command<W: io::Write, E: io::Write>(
     rt: &HostRuntime,
     words: &[&str],
@@ -185,5 +218,8 @@ pub fn command<W: io::Write, E: io::Write>(
 ) -> u8
     ensures { IsCode result }
 {
+    if is_wary(rt.alloc(), asks_why(words).1) {
+        return command_from(rt, || Wary, words, out, err).0;
+    }
     command_from(rt, || Unknown, words, out, err).0
 }

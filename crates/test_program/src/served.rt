@@ -69,6 +69,7 @@ fn served<K: Keeper>(
         count: 2,
         patience: None,
         clerks,
+        hosts: None,
     };
     let status = serve_on(
         rt,

@@ -1,6 +1,7 @@
 //! Public calls, where it isn't a story that shows them: stores that fail, requests and responses
 //! that break off.
 mod breaking;
+mod browsers;
 mod exchanges;
 mod taking;
 pub(crate) mod worked;

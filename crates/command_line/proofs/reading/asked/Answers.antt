@@ -17,7 +17,7 @@ returns-in-Some-clause-ok c = c.remote.ensures.ok c.args.place
 -- the server of a line that is no script's
 of_server : (p : Place) (f : Found) (w : Words) → (f.0 ≡ codes "script" → ⊥) → Says p f w → (s : Option SocketAddr) × SaysServer f.1 s
 of_server p f (words.Script file) other says = absurd (other says.0)
-of_server p f (words.Over book wait t) other says = (None, says.2)
+of_server p f (words.Over book opening t) other says = (None, says.2)
 of_server p f (words.Remote server t) other says = (Some server, says.0)
 
 pub returns-in_err-server-clause-err : goal.returns-in_err-server-clause-err

@@ -28,8 +28,8 @@ returns-in_default-task g c = record {
   made = tt;
   stopped = λ can.
       let read = ap (map (λ (w : Bor (List ℕ)). w.now)) c.deref.ensures.value ∙ c.in_ok-words.ensures in
-      let asked : Words = words.Over c.in-Over.book c.in-Over.wait c.in-Over.task in
+      let asked : Words = words.Over c.in-Over.book c.in-Over.opening c.in-Over.task in
       let texts : List (List ℕ) = map (λ (w : Bor (List ℕ)). w.now) c.deref.result.now in
       absurd (unasked c.args.row.now texts asked read (subst (λ (k : Words). IsLineRead Script texts k) c.in-Over.is c.in_ok-task.ensures.ok)
-      (no_init c.in-Over.book c.in-Over.wait c.in-Over.task c.in_default-task.not-Init) can);
+      (no_init c.in-Over.book c.in-Over.opening c.in-Over.task c.in_default-task.not-Init) can);
 }

@@ -8,6 +8,6 @@ invariant-loop g l = record {
   clock : goal.C-IsAlwaysCallable g l.clock;
   told : goal.T-IsAlwaysCallable g l.told;
   admits : goal.A-IsAlwaysCallable g l.admits;
-  so_far : HasTold (λ book c left. IsServed l.fn.audience (g.K.Keeper.standing book) (g.K.Keeper.standing left) c)
+  so_far : HasTold (λ book c left. IsServed l.fn.access (g.K.Keeper.standing book) (g.K.Keeper.standing left) c)
       (λ p t q. goal.C-step g p t q) (λ p x q. goal.T-step g p x tt q) l.fn.keeper l.keeper l.fn.clock l.clock l.fn.told l.told l.counter;
 }

@@ -3,11 +3,11 @@
 mod texts;
 
 use super::breaking::BreakingBook;
-use super::worked::{acme, counts, empty, enrols, faultless, morning, ninety};
+use super::worked::{acme, counts, empty, enrolled, faultless, morning, ninety};
 use cases::clerks::{deeds, looks, request_of, response_of, strays};
 use cases::sections::section_of;
 use http::Method;
-use intake::{Audience, Gauge, Status, respond, serve_one, serve_telling};
+use intake::{Access, Audience, Gauge, Status, respond, serve_one, serve_telling};
 use std::alloc::Global;
 use std::io::{self, ErrorKind, Read, Write};
 use std::test::Fail;
@@ -140,17 +140,6 @@ fn is_broken_off<K: Keeper>(
     comes_to(alloc, book, moment, request, room, want)
 }
 
-// The book of ZZ WHSE1, in which ZZ ACME is enrolled.
-fn enrolled(alloc: Global, moment: Moment) -> Result<ReplayBook, Fail> {
-    let acme = acme()?;
-    let mut book = empty(alloc)?;
-    if enrols(alloc, &mut book, acme, moment) {
-        Ok(book)
-    } else {
-        Err("enrolled".into())
-    }
-}
-
 // Whether so many texts went out.
 fn has_sent<K: Keeper>(book: &mut K, count: usize) -> Result<bool, Fail> {
     match faultless(outbox(book, acme()?))? {
@@ -263,7 +252,10 @@ fn is_written<K: Keeper>(
 ) -> bool {
     let mut reader = Gauge::new(request.as_bytes());
     let mut writer = Gauge::new(Vec::new(alloc));
-    let clerks = Audience::Clerks;
+    let clerks = Access {
+        audience: Audience::Clerks,
+        doors: None,
+    };
     let served = serve_telling(alloc, &mut reader, &mut writer, book, clerks, moment);
     served.outcome.is_ok() && writer.into_inner().as_slice() == response.as_bytes()
 }

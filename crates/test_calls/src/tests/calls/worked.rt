@@ -130,3 +130,14 @@ pub(crate) fn counts<K: Keeper>(
 ) -> bool {
     accepts(alloc, book, &count(who, b"T1", sheet), moment, RECEIPT)
 }
+
+// The book of ZZ WHSE1, in which ZZ ACME is enrolled.
+pub(crate) fn enrolled(alloc: Global, moment: Moment) -> Result<ReplayBook, Fail> {
+    let acme = acme()?;
+    let mut book = empty(alloc)?;
+    if enrols(alloc, &mut book, acme, moment) {
+        Ok(book)
+    } else {
+        Err("enrolled".into())
+    }
+}

@@ -1,0 +1,4 @@
+pub mod Lists
+pub mod Passing
+mod RowsHosts
+mod RowsHeads

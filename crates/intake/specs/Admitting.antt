@@ -1,0 +1,85 @@
+-- What a request asks for, and which requests a server turns away by their heads.
+use Rattle.std.specs.Prelude.{ℕ, Bool, false, List, Option, Some, None, map, option_map}
+use Rattle.httparse.specs.Grammar.{RequestHead}
+use Rattle.httparse.specs.Spans.{name_and_value}
+use Rattle.doors.specs.Doors.{barred_of, names_of, status_of}
+use Rattle.doors.specs.declared.barred.Barred.{Barred}
+use Rattle.doors.specs.declared.judging.Doors.{Doors}
+use Rattle.profile.specs.declared.rules.Rules.TheVariants.{Two}
+use Rattle.profile.specs.Moments.{Moment}
+use Rattle.profile.specs.Header.{Who}
+use Rattle.profile.specs.Register.{Command, Entry, Interchange}
+use Rattle.profile.specs.Response.{Response, bare, response_to, submitted}
+use Rattle.intake.specs.Asking.{asks_in}
+use Rattle.intake.specs.Calls.{Call, call_of}
+use Rattle.intake.specs.Fields.{head_of}
+use Rattle.intake.specs.Targets.{ToCall, asked_with, command_with, response_with}
+use Rattle.intake.specs.declared.audience.Access.{Access}
+use Rattle.intake.specs.declared.audience.Audience.{Audience}
+use Rattle.intake.specs.declared.audience.Audience.TheVariants.{Partners, Clerks}
+
+-- By partners an interchange or a route, as ever; by clerks the same, but where a path calls for
+-- something.
+
+abbrev pub call_submitted : Option Call → RequestHead → List ℕ → Option Command
+call_submitted None h rest = option_map Interchange (submitted (Some (head_of h)) rest)
+call_submitted (Some call) h rest =
+    command_with (head_of h).method (ToCall call) (asked_with (head_of h) (ToCall call) rest)
+
+abbrev pub call_answer : Option Call → Who → List Entry → RequestHead → List ℕ → Moment → Response
+call_answer None W L h rest t = response_to Two W L (Some (head_of h)) rest t
+call_answer (Some call) W L h rest t =
+    response_with W L (head_of h).method (ToCall call) t (asked_with (head_of h) (ToCall call) rest)
+
+-- the command that a request submits, by its head, if that is good, and the bytes after it
+abbrev pub command_in : Audience → Option RequestHead → List ℕ → Option Command
+command_in Partners head rest = option_map Interchange (submitted (option_map head_of head) rest)
+command_in Clerks None rest = None
+command_in Clerks (Some h) rest = call_submitted (call_of h.target) h rest
+
+-- the response to it
+abbrev pub answer_of : Audience → Who → List Entry → Option RequestHead → List ℕ → Moment → Response
+answer_of Partners W L head rest t = response_to Two W L (option_map head_of head) rest t
+answer_of Clerks W L None rest t = response_to Two W L None rest t
+answer_of Clerks W L (Some h) rest t = call_answer (call_of h.target) W L h rest t
+
+-- Which requests are turned away.
+
+-- partners are served, and nobody is turned away
+abbrev pub of_partners : Access
+of_partners = record { audience = Partners; doors = None }
+
+-- why a request is turned away at these doors; where there are none, no request is
+abbrev pub barred_at : Option Doors → RequestHead → Option Barred
+barred_at None h = None
+barred_at (Some doors) h =
+    barred_of (names_of doors.names) h.method (map name_and_value h.fields)
+
+-- the command that a request submits: one that is turned away submits none
+abbrev pub command_past : Option Barred → Audience → RequestHead → List ℕ → Option Command
+command_past None audience h rest = command_in audience (Some h) rest
+command_past (Some why) audience h rest = None
+
+abbrev pub command_by : Access → Option RequestHead → List ℕ → Option Command
+command_by access None rest = command_in access.audience None rest
+command_by access (Some h) rest = command_past (barred_at access.doors h) access.audience h rest
+
+-- the response to it: to one that is turned away, the status that says why
+abbrev pub answer_past : Option Barred → Audience → Who → List Entry → RequestHead → List ℕ
+    → Moment → Response
+answer_past None audience W L h rest t = answer_of audience W L (Some h) rest t
+answer_past (Some why) audience W L h rest t = bare (status_of why)
+
+abbrev pub answer_by : Access → Who → List Entry → Option RequestHead → List ℕ → Moment → Response
+answer_by access W L None rest t = answer_of access.audience W L None rest t
+answer_by access W L (Some h) rest t =
+    answer_past (barred_at access.doors h) access.audience W L h rest t
+
+-- whether it asks the book for anything
+abbrev pub asks_past : Option Barred → Audience → RequestHead → List ℕ → Bool
+asks_past None audience h rest = asks_in audience (Some h) rest
+asks_past (Some why) audience h rest = false
+
+abbrev pub asks_by : Access → Option RequestHead → List ℕ → Bool
+asks_by access None rest = asks_in access.audience None rest
+asks_by access (Some h) rest = asks_past (barred_at access.doors h) access.audience h rest
