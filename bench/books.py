@@ -58,7 +58,7 @@ LOTS = [("SELECT item, lot, since, expected, on_hand, reserved, shipped FROM sto
 EXPIRIES = [("SELECT item, lot, expiry FROM lot_expiry WHERE who = ?1 AND item = ?2 ORDER BY item, lot", ["who", "item"])]
 KNOWN = [("SELECT seq FROM entry WHERE who = ?1 AND mark = ?2 ORDER BY seq", ["who", "mark"]),
          ("SELECT who, mark, n, moment, body FROM entry WHERE seq = ?1", ["seq"]), ("SELECT rules FROM entry_rules WHERE seq = ?1", ["seq"]),
-         ("SELECT content FROM outgoing WHERE who = ?1 AND n = ?2", ["who", "n"])]
+         ("SELECT content, kind, state FROM outgoing WHERE who = ?1 AND n = ?2", ["who", "n"])]
 ENTRY = "INSERT INTO entry (seq, who, mark, n, moment, body) VALUES (?1, ?2, ?3, ?4, ?5, ?6)"
 RULES = "INSERT INTO entry_rules (seq, rules) VALUES (?1, ?2)"
 OUTGOING = "INSERT INTO outgoing (who, n, kind, content, state) VALUES (?1, ?2, ?3, ?4, ?5)"

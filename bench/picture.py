@@ -27,7 +27,8 @@ WIDTH, HEIGHT = 900, 692
 # and the width of its band, and its crates, row by row; `-` leaves a place free.
 Layer = namedtuple("Layer", "title about left top width rows")
 LAYERS = [
-    Layer("Definitions", "what contracts cite, and worked examples", 16, 608, 868, ["profile"]),
+    Layer("Definitions", "what contracts cite, and worked examples", 16, 608, 868,
+          ["profile worked_rows"]),
     Layer("X12 texts", "read, judged, written", 16, 526, 868,
           ["segments envelope group_faults tables sets_in sets_out"]),
     Layer("Goods and rules", "what is decided; no store, no clock", 16, 422, 868,
@@ -37,7 +38,7 @@ LAYERS = [
           ["books book_tables ram_disk", "book_transactions book_statements"]),
     Layer("Edges", "what comes in, and what people see", 158, 98, 442,
           ["commands command_line errands -", "folders reports sheet_texts -",
-           "intake doors fields gauges"]),
+           "intake doors fields peers gauges"]),
     Layer("The program", "one line of words, run", 158, 16, 286, ["running whx12"]),
     Layer("Tests", "", 456, 16, 428, ["cases test_calls test_program"]),
 ]

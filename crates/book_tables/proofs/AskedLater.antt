@@ -1,20 +1,29 @@
 -- What a second query finds, and why it fails, is told of the tables before the first.
-use Rattle.std.proofs.Common.{◌≡◌, ◌≤◌, inl, inr, ℕ, List, Bool, true, false, not, length, Some, None, Result, Ok, Err, IfErr, refl, sym, subst, arith}
+use Rattle.std.proofs.Common.{◌≡◌, ◌≤◌, inl, inr, ℕ, List, Bool, true, false, not, length, Some, None, Result, Ok, Err, IfErr, IfOk, refl, sym, subst, arith}
 use Rattle.std.specs.Prelude.{◌==◌, IsErrAnd, if◌then◌else◌}
+use Rattle.sqlite.specs.Effect.{Database}
+use Rattle.sqlite.specs.Order.{Row}
 use Rattle.sqlite.specs.State.{State, HasCleanDisk}
 use Rattle.profile.specs.Header.{Who}
 use Rattle.profile.specs.Register.{Entry, own}
 use Rattle.profile.specs.Rows.{stock_rows, stock_of, outbox_rows, outbox_of}
 use Rattle.store.specs.Fault.{Fault}
-use Rattle.book_statements.specs.Asking.{IsAsked, IsAskFault}
+use Rattle.book_statements.specs.Asking.{Finds, IsAsked, IsAskFault}
 use Rattle.book_statements.specs.Exits.{StandsWhileOpen}
 use Rattle.book_statements.specs.Rises.{Rises}
 use Rattle.book_statements.specs.Standing.{StandsSecond}
+use Rattle.book_tables.specs.Answering.{Answers}
 
 pub stands_later : (old mid : State) (W : Who) (L : List Entry) → HasCleanDisk mid → IsAsked old mid → StandsWhileOpen old W L → StandsWhileOpen mid W L
 stands_later old mid W L clean asked stands =
     let before = asked.same clean in
     (λ o. subst (StandsSecond W L) (sym (before.now o)) (stands (before.was_open o)))
+
+-- what is told of the rows that a later text is answered by holds of the tables before
+pub answers_before : (text : List ℕ) (params : Row) (P : List Row → Type 0) (old mid : State) → HasCleanDisk mid → IsAsked old mid → Answers text params P mid → Answers text params P old
+answers_before text params P old mid clean asked told =
+    let before = asked.same clean in
+    (before.was_open told.0, told.1, subst (λ (db : Database). Finds text params db told.1) (before.now told.0) told.2, told.3)
 
 pub clean_before : (mid new : State) → IsAsked mid new → HasCleanDisk new → HasCleanDisk mid
 clean_before mid new asked clean = omega (arith, asked.crash.clean, clean)
@@ -62,6 +71,11 @@ outbox_some W L who h = by (length (own L who) == 0) h
     by : (b : Bool) → not b ≡ true → Some (outbox_rows W (own L who)) ≡ (if b then None else Some (outbox_rows W (own L who)))
     by true g = absurd (let e : ◌≡◌ {A = Bool} false true = g in cc)
     by false g = refl
+
+-- what holds whatever is told
+pub ok_anyway : {T E A : Type 0} (r : Result T E) → A → IfOk r (λ x. A)
+ok_anyway (Ok x) a = a
+ok_anyway (Err e) a = tt
 
 -- an error that is handed on
 pub err_as : {T E : Type 0} (P : E → Type 0) (r : Result T E) (e : E) → IsErrAnd r (λ f. f ≡ e) → P e → IfErr r P

@@ -68,7 +68,7 @@ module _ (W : Who) (es : List Event) (n : ℕ) where
       by true e =
           let here : find (is_under n) (its ∷ rows) ≡ Some its = ap (λ (b : Bool). cond b (Some its) (find (is_under n) rows)) (ap (λ (m : ℕ). m == n) (sym number) ∙ e) in
           let none : document_at n (documents_of es (sent_on j M)) ≡ None = none_later es n j M (omega (arith, is, eqb-true k n e)) in
-          subst (λ (o : Option OutRow). Agrees n o (document_at n (documents_of es (sent_on j M)))) (sym here) (subst (IsRowOf n its) (sym none) refl)
+          subst (λ (o : Option OutRow). Agrees n o (document_at n (documents_of es (sent_on j M)))) (sym here) (subst (IsRowOf n its) (sym none) (refl, refl))
       by false e =
           let there : find (is_under n) (its ∷ rows) ≡ find (is_under n) rows = ap (λ (b : Bool). cond b (Some its) (find (is_under n) rows)) (ap (λ (m : ℕ). m == n) (sym number) ∙ e) in
           subst (λ (o : Option OutRow). Agrees n o (document_at n (documents_of es (sent_on j M)))) (sym there) later

@@ -3,6 +3,8 @@ mod Parts
 mod Sorts
 mod Showing
 mod ShownRows
+mod KindsAndStates
+mod ContentText
 mod Places
 mod Added
 mod Sendings
@@ -19,6 +21,8 @@ pub mod Queries
 mod Under
 mod Finding
 mod UnderTables
+mod UnderTest
+mod UnclosedTexts
 mod LotsFound
 pub mod OpenFound
 mod AdvicesFound

@@ -19,7 +19,8 @@ use Rattle.book_statements.specs.Asking.{Finds}
 use Rattle.book_tables.specs.Contents.{IsContent}
 use Rattle.book_statements.specs.Exits.{StandsWhileOpen}
 use Rattle.book_statements.specs.Recorded.{written_at}
-use Rattle.book_statements.proofs.KnownTexts.{under_text, content_text}
+use Rattle.book_statements.proofs.KnownTexts.{under_text}
+use Rattle.book_tables.specs.Outgoing.{content_text}
 use Rattle.book_tables.proofs.SentUnder.{content_found, some_content}
 use Rattle.book_tables.proofs.UnderKey.{seq_shown, numbers_of, under_found, find_none, find_some, first_found}
 

@@ -1,6 +1,6 @@
 -- What is read back of a moment's text, and of rows.
 use Rattle.std.proofs.Common.{◌≡◌, ◌≤◌, ◌<◌, ℕ, zero, suc, ◌+◌, ◌-◌, ◌*◌, ◌^◌, lit<, drop, pos, List, [], ◌∷◌, length, take, get_or, ◌&&◌, Bool, true, false, bytes_eq, Some, None, Option, refl, sym, ap, ◌∙◌, arith}
-use Rattle.std.specs.Prelude.{fold, min, if◌then◌else◌}
+use Rattle.std.specs.Prelude.{fold, min, if◌then◌else◌, IfSome}
 use Rattle.std.proofs.Math.Nat.{mul-le-mul_left, pow-succ', pow-le-pow_right}
 use Rattle.sqlite.specs.Order.{Row}
 use Rattle.sqlite.specs.declared.types.Value.{Value}
@@ -79,6 +79,11 @@ last_two text h = ap value (take_whole (drop 10 text) 2 (omega (arith, drop_long
 
 pub none_some : {A : Type 0} (o : Option A) (a : A) → o ≡ None → o ≡ Some a → ⊥
 none_some o a p q = cc
+
+-- what is known of what is there, whatever it is
+pub if_there : {A : Type 0} (P : Type 0) (o : Option A) (a : A) → o ≡ Some a → IfSome o (λ x. P) → P
+if_there P None a is h = absurd (cc)
+if_there P (Some b) a is h = h
 
 pub same_text_value : (v w : List ℕ) → ◌≡◌ {A = Value} (Text v) (Text w) → v ≡ w
 same_text_value v w e = cc

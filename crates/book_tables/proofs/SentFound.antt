@@ -5,10 +5,9 @@ use Rattle.std.specs.Prelude.{find, nat_lt, ◌==◌, if◌then◌else◌}
 use Rattle.std.proofs.lemmas.Bool.{eqb-true}
 use Rattle.sqlite.specs.State.{State}
 use Rattle.sqlite.specs.declared.types.Value.TheVariants as value
-use Rattle.sqlite.specs.Order.{Row}
+use Rattle.sqlite.specs.Order.{Row, column}
 use Rattle.sqlite.specs.Query.{Output, IsAnswer}
 use Rattle.sqlite.specs.Program.{overlay}
-use Rattle.sqlite.specs.Term.{Term, col}
 use Rattle.sqlite_rules.specs.Lists.{Has}
 use Rattle.sqlite_rules.proofs.ListLemmas.{has_filtered, has_found, has_kept}
 use Rattle.profile.specs.Header.{Who, is_partner, who_text}
@@ -31,7 +30,9 @@ use Rattle.book_statements.proofs.Asked.{found}
 use Rattle.book_tables.proofs.DocumentRows.{no_document, its_document}
 use Rattle.book_tables.proofs.Finding.{no_row, first_row, one_key, one_found, none_passes, not_found}
 use Rattle.book_statements.proofs.KeyLemmas.{equal_numbers}
-use Rattle.book_statements.proofs.KnownTexts.{content_text, content_is, content_reads}
+use Rattle.book_tables.specs.Outgoing.{content_text}
+use Rattle.book_tables.proofs.ContentText.{content_columns, content_is, content_reads}
+use Rattle.book_tables.proofs.Sendings.{is_read, legal_sent}
 use Rattle.book_statements.proofs.NeedTexts.{sent_text, sent_columns, sent_is, sent_reads, under_where}
 use Rattle.book_statements.proofs.Ordered.{sent_rise}
 use Rattle.book_tables.proofs.Places.{none_at_all, not_none}
@@ -115,22 +116,19 @@ module _ (old : State) (W : Who) (L : List Entry) (who : Who) (n : ℕ) (partner
   abbrev texts : List OutRow
   texts = outgoing_rows W (own L who)
 
-  abbrev text_columns : List Term
-  text_columns = col 1 4 ∷ []
-
-  texts_under : IsUnder 2 (sent_cells who) 4 text_columns [] content_out (value.Text (who_text who)) (value.Int (pos n)) (outgoing_table W L) (filter (rows_under n) texts)
+  texts_under : IsUnder 2 (sent_cells who) 4 content_columns [] content_out (value.Text (who_text who)) (value.Int (pos n)) (outgoing_table W L) (filter (rows_under n) texts)
   texts_under =
       cells_under W L who stood.legal partner (λ M. map outgoing_cells (outgoing_rows W M)) refl outgoing_cells texts refl (rows_under n) (value.Int (pos n)) 2 (λ id r. equal_numbers r.n n)
-      4 text_columns [] content_out (λ db. refl) (λ id r. refl)
+      4 content_columns [] content_out (λ db. refl) (λ id r. refl)
 
-  content_answer : IsAnswer (under_where 4 text_columns []) (overlay old.now.trees []) (value.Text (who_text who) ∷ value.Int (pos n) ∷ []) rows
+  content_answer : IsAnswer (under_where 4 content_columns []) (overlay old.now.trees []) (value.Text (who_text who) ∷ value.Int (pos n) ∷ []) rows
   content_answer = let read = found content_text (value.Text (who_text who) ∷ value.Int (pos n) ∷ []) old.now rows _ stood.schema content_reads content_is finds.1 in read.answer value.Null
 
   each_text : (row : Row) → Has rows row → (r : OutRow) × Has (filter (rows_under n) texts) r × (row ≡ content_shown r)
-  each_text = let held = stood.rows in each_row 2 (sent_cells who) 4 text_columns [] content_out (value.Text (who_text who)) (value.Int (pos n)) (outgoing_table W L) (filter (rows_under n) texts) texts_under old.now.trees (held Outgoing) rows content_answer
+  each_text = let held = stood.rows in each_row 2 (sent_cells who) 4 content_columns [] content_out (value.Text (who_text who)) (value.Int (pos n)) (outgoing_table W L) (filter (rows_under n) texts) texts_under old.now.trees (held Outgoing) rows content_answer
 
   text_there : (r : OutRow) → Has (filter (rows_under n) texts) r → Has rows (content_shown r)
-  text_there = let held = stood.rows in has_row 2 (sent_cells who) 4 text_columns [] content_out (value.Text (who_text who)) (value.Int (pos n)) (outgoing_table W L) (filter (rows_under n) texts) texts_under old.now.trees (held Outgoing) rows content_answer
+  text_there = let held = stood.rows in has_row 2 (sent_cells who) 4 content_columns [] content_out (value.Text (who_text who)) (value.Int (pos n)) (outgoing_table W L) (filter (rows_under n) texts) texts_under old.now.trees (held Outgoing) rows content_answer
 
   -- the rows show a content, which is the text but where it is empty
   pub text_shown : (content : List ℕ) × IsContent rows content × (text_under W (own L who) n ≡ (if length content == 0 then None else Some content))
@@ -140,7 +138,8 @@ module _ (old : State) (W : Who) (L : List Entry) (who : Who) (n : ℕ) (partner
       by [] is = ([], refl, ap (option_map (λ (r : OutRow). r.content)) (kept_none W (own L who) n (no_row (rows_under n) texts content_shown rows each_text text_there (one_row W (own L who) n) is)))
       by (row ∷ more) is =
           let it = first_row (rows_under n) texts content_shown rows each_text text_there (one_row W (own L who) n) row more is in
-          (it.0.content, it.2, told it.0 it.1 (length it.0.content == 0) refl)
+          let sent = legal_sent W L who stood.legal it.0 (has_found (rows_under n) texts it.0 it.1).0 in
+          (it.0.content, (ap (λ (x : Row). column x 0) it.2, is_read row it.0 it.2 sent), told it.0 it.1 (length it.0.content == 0) refl)
         where
           told : (r : OutRow) → find (rows_under n) texts ≡ Some r → (b : Bool) → (length r.content == 0) ≡ b → text_under W (own L who) n ≡ (if b then None else Some r.content)
           told r at true e = ap (option_map (λ (q : OutRow). q.content)) (kept_one W (own L who) n r false at (none_at_all (length r.content) e))

@@ -35,7 +35,10 @@ use Rattle.book_statements.specs.declared.names.TableName.TheVariants.{Outgoing}
 use Rattle.book_statements.specs.Standing.{StandsSecond}
 use Rattle.book_statements.proofs.Asked.{found}
 use Rattle.book_statements.proofs.KeyLemmas.{text_itself, int_itself, same_int, same_text as equal_text}
-use Rattle.book_statements.proofs.KnownTexts.{content_text, content_query, content_is, content_reads}
+use Rattle.book_tables.specs.Outgoing.{content_text}
+use Rattle.book_tables.specs.Showing.{content_shown}
+use Rattle.book_tables.proofs.ContentText.{content_query, content_is, content_reads}
+use Rattle.book_tables.proofs.Sendings.{is_read, legal_sent}
 use Rattle.book_statements.proofs.Ordered.{numbers_over, row_number, sent_rise}
 use Rattle.book_tables.proofs.Parts.{begins, outgoing_part}
 use Rattle.book_statements.proofs.Passing.{flat_map-cond, from_row, to_row, whose}
@@ -120,7 +123,7 @@ module _ (W : Who) (L : List Entry) (who : Who) (legal : IsLegal Two W L) (partn
   stored_as id m = value.Int id ∷ values (Text t ∷ outgoing_cells m)
 
   -- a stored row that passes is one of the model, under the number
-  row_of : (r : Row) → Has (db 4) r → test r ≡ true → (m : OutRow) × Has ms m × (m.n ≡ n) × (column r 4 ≡ value.Blob m.content)
+  row_of : (r : Row) → Has (db 4) r → test r ≡ true → (m : OutRow) × Has ms m × (m.n ≡ n) × (column r 4 ≡ value.Blob m.content) × (column r 3 ≡ value.Text m.kind) × (column r 5 ≡ value.Text m.state)
   row_of r there passes =
       let it = held.sound r there in
       let first = begun L (λ M. map outgoing_cells (outgoing_rows W M)) it.1 it.2 in
@@ -133,7 +136,7 @@ module _ (W : Who) (L : List Entry) (who : Who) (legal : IsLegal Two W L) (partn
       let model = has_mapped outgoing_cells ms cell.0 cell.1 in
       let shown : r ≡ stored_as it.0 model.0 = it.3 ∙ ap (λ (c : TableRow). value.Int it.0 ∷ values c) (cell.2 ∙ ap (λ (c : TableRow). Text t ∷ c) model.2) in
       let number : model.0.n ≡ n = pos_is model.0.n n (same_int (pos model.0.n) (pos n) (subst (λ (v : _). equal Binary v (value.Int (pos n)) ≡ true) (ap (λ (x : Row). column x 2) shown) (and_true _ _ both.1).0)) in
-      (model.0, model.1, number, ap (λ (x : Row). column x 4) shown)
+      (model.0, model.1, number, ap (λ (x : Row). column x 4) shown, ap (λ (x : Row). column x 3) shown, ap (λ (x : Row). column x 5) shown)
 
   -- and a row of the model is stored and passes
   model_held : (m : OutRow) → Has ms m → m.n ≡ n → (id : ℤ) × Has (db 4) (stored_as id m) × (test (stored_as id m) ≡ true)
@@ -148,13 +151,13 @@ module _ (W : Who) (L : List Entry) (who : Who) (legal : IsLegal Two W L) (partn
     kept_is : a.kept ≡ map (output content_query) (map (λ (r : Row). params ∷ r ∷ []) (filter test (db 4)))
     kept_is = a.distinct ∙ ap (map (output content_query)) (a.grouped ∙ flat_map-cond test (λ (r : Row). params ∷ r ∷ []) (db 4))
 
-    of_row : (row : Row) → Has rows row → (m : OutRow) × Has ms m × (m.n ≡ n) × (row ≡ value.Blob m.content ∷ [])
+    of_row : (row : Row) → Has rows row → (m : OutRow) × Has ms m × (m.n ≡ n) × (row ≡ content_shown m)
     of_row row there =
         let it = from_row content_query params test (db 4) rows a.kept a.ordered kept_is a.same a.shown row there in
         let m = row_of it.0 it.1 it.2 in
-        (m.0, m.1, m.2, it.3 ∙ ap (λ (v : _). v ∷ []) m.3)
+        (m.0, m.1, m.2, it.3 ∙ (λ i. m.3 i ∷ m.4 i ∷ m.5 i ∷ []))
 
-    has_row : (m : OutRow) → Has ms m → m.n ≡ n → Has rows (value.Blob m.content ∷ [])
+    has_row : (m : OutRow) → Has ms m → m.n ≡ n → Has rows (content_shown m)
     has_row m there is =
         let stored = model_held m there is in
         to_row content_query params test (db 4) rows a.kept a.ordered kept_is a.same a.shown (stored_as stored.0 m) stored.1 stored.2
@@ -169,22 +172,22 @@ module _ (W : Who) (L : List Entry) (who : Who) (legal : IsLegal Two W L) (partn
       numbered : is_numbered e ≡ true → n ≡ next_number before → IsContent rows (out W before e)
       numbered h is = by rows (has_row its (its_there h) (row_number W (events (own L who)) before e ∙ sym is)) of_row
         where
-          by : (rs : List Row) → Has rs (value.Blob its.content ∷ []) → ((row : Row) → Has rs row → (m : OutRow) × Has ms m × (m.n ≡ n) × (row ≡ value.Blob m.content ∷ [])) → IsContent rs (out W before e)
+          by : (rs : List Row) → Has rs (content_shown its) → ((row : Row) → Has rs row → (m : OutRow) × Has ms m × (m.n ≡ n) × (row ≡ content_shown m)) → IsContent rs (out W before e)
           by [] none each = absurd none
           by (row ∷ rs) there each =
               let m = each row (inl refl) in
               let same : m.0 ≡ its = same_number ms m.0 its (sent_rise W (events (own L who)) [] (own L who)) m.1 (its_there h) (m.2 ∙ is ∙ sym (row_number W (events (own L who)) before e)) in
-              m.3 ∙ ap (λ (r : OutRow). value.Blob r.content ∷ []) same ∙ ap (λ (c : List ℕ). value.Blob c ∷ []) (row_content W (events (own L who)) before e)
+              (ap (λ (x : Row). column x 0) m.3 ∙ ap (λ (r : OutRow). value.Blob r.content) same ∙ ap value.Blob (row_content W (events (own L who)) before e), is_read row m.0 m.3 (legal_sent W L who legal m.0 m.1))
 
       unnumbered : is_numbered e ≡ false → n ≡ 0 → IsContent rows (out W before e)
       unnumbered h is = by rows of_row
         where
-          by : (rs : List Row) → ((row : Row) → Has rs row → (m : OutRow) × Has ms m × (m.n ≡ n) × (row ≡ value.Blob m.content ∷ [])) → IsContent rs (out W before e)
+          by : (rs : List Row) → ((row : Row) → Has rs row → (m : OutRow) × Has ms m × (m.n ≡ n) × (row ≡ content_shown m)) → IsContent rs (out W before e)
           by [] each = nothing_sent W before e h
           by (row ∷ rs) each = absurd (let m = each row (inl refl) in never_zero W (own L who) m.0 m.1 (m.2 ∙ is))
 
-      content_shown : n ≡ (if is_numbered e then next_number before else 0) → IsContent rows (out W before e)
-      content_shown is = by (is_numbered e) refl is
+      content_told : n ≡ (if is_numbered e then next_number before else 0) → IsContent rows (out W before e)
+      content_told is = by (is_numbered e) refl is
         where
           by : (b : Bool) → is_numbered e ≡ b → n ≡ (if b then next_number before else 0) → IsContent rows (out W before e)
           by true h i = numbered h i
@@ -196,7 +199,7 @@ pub content_found : (W : Who) (L : List Entry) (who : Who) (n : ℕ) (db : Datab
 content_found W L who n db rows partner stands h before e back split is =
     let read = found content_text (value.Text (who_text who) ∷ value.Int (pos n) ∷ []) db rows _ stands.schema content_reads content_is h in
     let held = stands.rows in
-    content_shown W L who stands.legal partner n db.trees (held Outgoing) rows (read.answer value.Null) before e back split is
+    content_told W L who stands.legal partner n db.trees (held Outgoing) rows (read.answer value.Null) before e back split is
 
 -- whatever is under a number shows a content
 pub some_content : (W : Who) (L : List Entry) (who : Who) (n : ℕ) (db : Database) (rows : List Row) → is_partner who ≡ true → StandsSecond W L db
@@ -206,6 +209,6 @@ some_content W L who n db rows partner stands h =
     let held = stands.rows in
     by rows (of_row W L who stands.legal partner n db.trees (held Outgoing) rows (read.answer value.Null))
   where
-    by : (rs : List Row) → ((row : Row) → Has rs row → (m : OutRow) × Has (outgoing_rows W (own L who)) m × (m.n ≡ n) × (row ≡ value.Blob m.content ∷ [])) → (content : List ℕ) × IsContent rs content
+    by : (rs : List Row) → ((row : Row) → Has rs row → (m : OutRow) × Has (outgoing_rows W (own L who)) m × (m.n ≡ n) × (row ≡ content_shown m)) → (content : List ℕ) × IsContent rs content
     by [] each = ([], refl)
-    by (row ∷ rs) each = let m = each row (inl refl) in (m.0.content, m.3)
+    by (row ∷ rs) each = let m = each row (inl refl) in (m.0.content, (ap (λ (x : Row). column x 0) m.3, is_read row m.0 m.3 (legal_sent W L who stands.legal m.0 m.1)))

@@ -6,4 +6,7 @@ pub mod Looking
 pub mod Enrolments
 pub mod Taken
 pub mod Needed
+pub mod Answering
+pub mod Opened
+pub mod Outgoing
 pub mod Comparing

@@ -9,6 +9,8 @@ use Rattle.rules.specs.Function.TheVariants as functions
 use Rattle.rules.specs.OutKind.{OutKind}
 use Rattle.rules.specs.OutKind.TheVariants.{Answer, Receipt, Shipment, Adjustment}
 use Rattle.rules.specs.Kinds.{kind_text}
+use Rattle.store.specs.declared.rows.DocumentState.TheVariants.{Unasked}
+use Rattle.store.specs.Sent.{state_name}
 
 -- an advice but for its lines
 abbrev pub bare_advice : PageAdvice → PageAdvice
@@ -43,7 +45,7 @@ function_as Adjustment = Some functions.Adjustment
 
 -- the row of a number is that of the document under it, or of an answer where there is none
 abbrev pub IsRowOf : ℕ → OutRow → Option PageDocument → Type 0
-IsRowOf n r None = r.kind ≡ kind_text Answer
+IsRowOf n r None = (r.kind ≡ kind_text Answer) × (r.state ≡ state_name Unasked)
 IsRowOf n r (Some d) = (kind : OutKind) × (function : Function) × (function_as kind ≡ Some function)
     × (r.kind ≡ kind_text kind) × (r.state ≡ state_text d.said)
     × (d ≡ record { n = n; function = function_text function; said = d.said })

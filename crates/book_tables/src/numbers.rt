@@ -1,4 +1,4 @@
-ghost use Rattle.std.specs.Prelude.{◌≡◌, MatchOption, Some, IfOk, IsTrue, OnOk, Option as Maybe, Bool, option_map};
+ghost use Rattle.std.specs.Prelude.{◌≡◌, ◌≢◌, Some, IfOk, IfSome, IsTrue, OnOk, Option as Maybe, option_map};
 ghost use Rattle.profile.specs.Page.{PageDocument, page_of};
 ghost use Rattle.profile.specs.Register as register;
 ghost use Rattle.profile.specs.Rows.{OutRow, state_text};
@@ -7,11 +7,12 @@ ghost use Rattle.sqlite.specs.State.{HasCleanDisk};
 ghost use Rattle.rules.specs.Pages.{document_at};
 ghost use Rattle.book_statements.specs.Asking.{Asked, OfStanding};
 ghost use Rattle.book_tables.specs.Looking.{function_as, IsRowOf};
-ghost use Rattle.store.specs.Sent.{text_under};
-ghost use Rattle.book_tables.specs.Showing.{sent_shown};
+ghost use Rattle.store.specs.Sent.{state_name, text_under};
+ghost use Rattle.book_tables.specs.Outgoing.{AnswersContent, AnswersSent};
+ghost use Rattle.book_tables.specs.Showing.{sent_shown, HasKindAndState};
 
 use crate::connected::Tables;
-use crate::reading::{small_at, text_at};
+use crate::reading::{sent_as, small_at};
 use crate::recalled::content_in;
 use rules::{Function, KnownDocument, OutKind, Who};
 use sqlite::{Alter, Row};
@@ -30,31 +31,33 @@ fn function_as(kind: OutKind) -> Option<Function>
     }
 }
 
-// What was said of a document, in the word for it.
-fn said_in(word: &[u8]) -> Option<Option<bool>>
-    ensures { MatchOption result ((said : Maybe Bool) → word.now ≡ state_text said
-        → ⊥) (λ said. word.now ≡ state_text said) }
+// What was said of a document, by its state; of an answer nothing is.
+fn said_by(state: DocumentState) -> Option<bool>
+    ensures { state ≢ DocumentState.Unasked → state_name state ≡ state_text result }
 {
-    match DocumentState::of_text(word)? {
-        DocumentState::Unasked => None,
-        DocumentState::Open => Some(None),
-        DocumentState::Accepted => Some(Some(true)),
-        DocumentState::Refused => Some(Some(false)),
+    match state {
+        DocumentState::Unasked | DocumentState::Open => None,
+        DocumentState::Accepted => Some(true),
+        DocumentState::Refused => Some(false),
     }
 }
 
 // The document under a number that a row of kind and state shows, which is none where an answer
 // went out; None where it shows none.
 fn document_in(n: u32, row: &Row) -> Option<Option<KnownDocument>>
-    ensures { (r : OutRow) (d : Maybe PageDocument) → IsRowOf n r d → row.now ≡ sent_shown r
+    ensures shows { (r : OutRow) (d : Maybe PageDocument) → IsRowOf n r d → row.now ≡ sent_shown r
         → result ≡ Some d }
+    ensures known { IfSome result (λ document. HasKindAndState row.now 0 1) }
 {
-    let kind = OutKind::of_text(text_at(row, 0)?)?;
-    let Some(function) = function_as(kind) else {
-        return Some(None);
-    };
-    let said = said_in(text_at(row, 1)?)?;
-    Some(Some(KnownDocument { n, function, said }))
+    let (kind, state) = sent_as(row, 0, 1)?;
+    match function_as(kind) {
+        Some(function) => Some(Some(KnownDocument {
+            n,
+            function,
+            said: said_by(state),
+        })),
+        None => Some(None),
+    }
 }
 
 impl<S: Alter + Drop> Tables<S> {
@@ -69,6 +72,8 @@ impl<S: Alter + Drop> Tables<S> {
         ensures document { OfStanding S.Store self.old self.new
             (λ W L. IfOk result (λ document. document ≡ document_at n
             (page_of (register.own L who)).documents)) }
+        ensures known { HasCleanDisk (state S.Store self.new.conn) → IfOk result
+            (λ document. AnswersSent who n (state S.Store self.old.conn)) }
         ensures asked { Asked S.Store self.old self.new result }
     {
         let rows = self.under_number(
@@ -86,7 +91,7 @@ impl<S: Alter + Drop> Tables<S> {
     }
 
     /// The text that went out to a depositor under a number, but for an empty one; None where there
-    /// is none. 43 where its row shows none.
+    /// is none. 43 where its row shows none, or no kind and state.
     pub(crate) fn text_under(
         &mut self,
         alloc: Global,
@@ -96,10 +101,12 @@ impl<S: Alter + Drop> Tables<S> {
         ensures text { OfStanding S.Store self.old self.new
             (λ W L. IfOk result (λ text. option_map (λ v. v.items) text ≡ text_under W
             (register.own L who) n)) }
+        ensures known { HasCleanDisk (state S.Store self.new.conn) → IfOk result
+            (λ text. AnswersContent who n (state S.Store self.old.conn)) }
         ensures asked { Asked S.Store self.old self.new result }
     {
         let rows = self.under_number(
-            "SELECT content FROM outgoing WHERE who = ?1 AND n = ?2",
+            "SELECT content, kind, state FROM outgoing WHERE who = ?1 AND n = ?2",
             who,
             n,
         )?;

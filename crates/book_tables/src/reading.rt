@@ -11,12 +11,14 @@ ghost use Rattle.sqlite_value.specs.Value.{owned};
 ghost use Rattle.rules.specs.Written.{Written};
 ghost use Rattle.book_statements.specs.Held.{value_of};
 ghost use Rattle.book_statements.specs.Recorded.{IsHouse, rules_shown};
+ghost use Rattle.book_tables.specs.Showing.{is_state_of, IsSentAs};
 
 use profile::Rules;
-use rules::{Moment, Warehouse, Who};
+use rules::{Moment, OutKind, Warehouse, Who};
 use segments::value_up_to;
 use sqlite::Row;
 use sqlite::types::ValueRef;
+use store::DocumentState;
 
 // The text that a value is.
 fn text_in(value: ValueRef<'_>) -> Option<&[u8]>
@@ -170,6 +172,33 @@ pub(crate) fn rules_in(row: &Row) -> Option<Rules>
         1 => Some(Rules::One),
         2 => Some(Rules::Two),
         _ => None,
+    }
+}
+
+// Whether a text of this kind can have this state.
+fn is_state_of(kind: OutKind, state: DocumentState) -> bool
+    ensures { result ≡ is_state_of kind state }
+{
+    match kind {
+        OutKind::Answer => matches!(state, DocumentState::Unasked),
+        _ => !matches!(state, DocumentState::Unasked),
+    }
+}
+
+/// What a text that went out is and what was said of it, as two columns of its row have the words;
+/// None where the one is no kind's word, or the other is no word of a state that this kind can
+/// have. A row that shows none is no answer's either, so whoever reads it must not pass it over.
+pub(crate) fn sent_as(row: &Row, kind: usize, state: usize) -> Option<(OutKind, DocumentState)>
+    ensures { MatchOption result ((k : OutKind) (s : DocumentState)
+        → IsSentAs row.now kind state k s → ⊥)
+        (λ it. IsSentAs row.now kind state it.0 it.1) }
+{
+    let what = OutKind::of_text(text_at(row, kind)?)?;
+    let said = DocumentState::of_text(text_at(row, state)?)?;
+    if is_state_of(what, said) {
+        Some((what, said))
+    } else {
+        None
     }
 }
 

@@ -5,16 +5,18 @@ ghost use Rattle.profile.specs.Rows as meant;
 ghost use Rattle.sqlite.specs.declared.types.Value.TheVariants as value;
 ghost use Rattle.sqlite.specs.Held.{state};
 ghost use Rattle.sqlite.specs.Order.{column};
+ghost use Rattle.sqlite.specs.State.{HasCleanDisk};
 ghost use Rattle.sqlite_rules.specs.Lists.{Has};
 ghost use Rattle.book_statements.specs.Asking.{Asked, OfStanding};
-ghost use Rattle.book_tables.specs.Showing.{out_shown, HasText, IsSent};
+ghost use Rattle.book_tables.specs.Outgoing.{AnswersOut};
+ghost use Rattle.book_tables.specs.Showing.{out_shown, HasKindAndState, IsOut, IsSent};
 
 use crate::connected::Tables;
-use crate::reading::{blob_at, number_at, text_at};
+use crate::reading::{blob_at, number_at, sent_as};
 use rules::Who;
 use sqlite::{Alter, Row};
 use std::alloc::{AllocError, Global};
-use store::{DocumentState, Fault, OutKind, OutRow};
+use store::{Fault, OutRow};
 
 // The text that a row of n, kind, content and state shows; None where it shows none.
 fn out_row_in(alloc: Global, row: &Row) -> Result<Option<OutRow>, AllocError>
@@ -22,6 +24,7 @@ fn out_row_in(alloc: Global, row: &Row) -> Result<Option<OutRow>, AllocError>
         → IfOk result (λ shown. shown ≡ Some r) }
     ensures text { IfOk result (λ shown. IfSome shown
         (λ r. column row.now 2 ≡ value.Blob r.content)) }
+    ensures known { IfOk result (λ shown. IfSome shown (λ r. HasKindAndState row.now 1 3)) }
 {
     let Some(n) = number_at(row, 0) else {
         return Ok(None);
@@ -29,19 +32,10 @@ fn out_row_in(alloc: Global, row: &Row) -> Result<Option<OutRow>, AllocError>
     let Ok(n) = u32::try_from(n) else {
         return Ok(None);
     };
-    let Some(word) = text_at(row, 1) else {
-        return Ok(None);
-    };
-    let Some(kind) = OutKind::of_text(word) else {
+    let Some((kind, state)) = sent_as(row, 1, 3) else {
         return Ok(None);
     };
     let Some(content) = blob_at(row, 2) else {
-        return Ok(None);
-    };
-    let Some(said) = text_at(row, 3) else {
-        return Ok(None);
-    };
-    let Some(state) = DocumentState::of_text(said) else {
         return Ok(None);
     };
     Ok(Some(OutRow {
@@ -59,7 +53,7 @@ pub(crate) fn out_rows_in(alloc: Global, rows: &[Row]) -> Result<Option<Vec<OutR
         → rows.now ≡ map out_shown rs → IfOk result
         (λ shown. option_map (λ v. v.items) shown ≡ Some
         (filter (λ (r : meant.OutRow). nat_lt 0 (length r.content)) rs)) }
-    ensures all { IfOk result (λ shown. IfSome shown (λ _. AllByRecursion HasText rows.now)) }
+    ensures all { IfOk result (λ shown. IfSome shown (λ _. AllByRecursion IsOut rows.now)) }
 {
     let mut shown = Vec::new(alloc);
     for row in rows {
@@ -79,6 +73,8 @@ impl<S: Alter + Drop> Tables<S> {
     pub(crate) fn sent_rows(&mut self, alloc: Global, who: Who) -> Result<Vec<OutRow>, Fault>
         ensures rows { OfStanding S.Store self.old self.new
             (λ W L. IfOk result (λ rows. rows.items ≡ meant.outbox_rows W (register.own L who))) }
+        ensures known { HasCleanDisk (state S.Store self.new.conn) → IfOk result
+            (λ rows. AnswersOut who (state S.Store self.old.conn)) }
         ensures asked { Asked S.Store self.old self.new result }
     {
         let rows = self.of_depositor(

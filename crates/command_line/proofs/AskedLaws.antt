@@ -105,7 +105,7 @@ task_has f (task.Batch file) s = named f.1 s.0 ((λ _. (file.now, s.1)), tt)
 task_has f (task.Serve service at) s =
     let listen = s.1.0.0 in
     let count = s.1.1 in
-    named f.1 s.0 ((λ _. (listen.0, listen.1)), ((λ _. (count.0, count.1)), (may, (may, (may, (may, (may, tt)))))))
+    named f.1 s.0 ((λ _. (listen.0, listen.1)), ((λ _. (count.0, count.1)), (may, (may, (may, (may, (may, (may, tt))))))))
 task_has f task.Verify s = named f.1 s (may, tt)
 
 -- the name of what is asked for

@@ -63,10 +63,9 @@ abbrev pub SaysNumber : List Row → Option ℕ → Type 0
 SaysNumber rows number =
     option_map number_of (first_of (codes "number") rows) ≡ option_map Some number
 
--- how long a line says that a request is waited for, or it says nothing of it
-abbrev pub SaysPatience : List Row → Option ℕ → Type 0
-SaysPatience rows seconds =
-    option_map count_of (first_of (codes "patience") rows) ≡ option_map Some seconds
+-- the number that the line says as this option is one from 1 to 65535, this one, or it says none
+abbrev pub SaysFew : List Row → Text → Option ℕ → Type 0
+SaysFew rows id few = option_map count_of (first_of id rows) ≡ option_map Some few
 
 abbrev pub act_name : SheetKind → Text
 act_name Count = codes "count"
@@ -124,7 +123,8 @@ SaysHosts rows hosts = first_of (codes "host") rows ≡ option_map (λ b. b.now)
 
 abbrev pub SaysService : List Row → Service → Type 0
 SaysService rows s = IsGuarded rows s.address
-    × SaysCount rows s.count × SaysPatience rows s.patience
+    × SaysCount rows s.count × SaysFew rows (codes "patience") s.patience
+    × SaysFew rows (codes "peers") s.peers
     × (s.clerks ≡ has_flag rows (codes "clerks")) × SaysHosts rows s.hosts
 
 abbrev pub SaysTask : Found → Task → Type 0

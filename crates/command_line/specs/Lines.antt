@@ -93,8 +93,8 @@ depositors_shape = subcommand (codes "depositors") (at_rule ∷ [])
 
 abbrev pub serve_shape : Shape
 serve_shape = subcommand (codes "serve") (wanted_rule (codes "listen") ∷ wanted_rule (codes "count")
-    ∷ option_rule (codes "patience") ∷ option_rule (codes "host") ∷ flag_rule (codes "anyone")
-    ∷ flag_rule (codes "clerks") ∷ at_rule ∷ [])
+    ∷ option_rule (codes "patience") ∷ option_rule (codes "peers") ∷ option_rule (codes "host")
+    ∷ flag_rule (codes "anyone") ∷ flag_rule (codes "clerks") ∷ at_rule ∷ [])
 
 abbrev pub verify_shape : Shape
 verify_shape = subcommand (codes "verify") (at_rule ∷ [])

@@ -171,8 +171,8 @@ fn serve_wanted<'a>(alloc: Global) -> Result<Command<'a>, AllocError>
     let command = subcommand(
         alloc,
         "serve",
-        "Serves the book over HTTP, one connection after the other",
-        "whx12 serve --listen ADDR --count N [--patience SECONDS] [--host NAMES] [--anyone] [--clerks] --book BOOK [--at MOMENT]",
+        "Serves the book over HTTP: many connections at once, their requests one after the other",
+        "whx12 serve --listen ADDR --count N [--patience SECONDS] [--peers N] [--host NAMES] [--anyone] [--clerks] --book BOOK [--at MOMENT]",
         "Example: whx12 serve --book harbor.book --listen 127.0.0.1:8080 --count 1000\n\nA depositor posts its interchanges to /x12. GET /stock/ZZ-ACME shows stock, /outbox/ZZ-ACME what went out. Printed is the\nstatus of each response, or: fault 44 Device. While it serves, no other command can open the book; where it\nhas --clerks, those with --server ask it instead.",
         wanted(
             alloc,
@@ -203,6 +203,15 @@ fn serve<'a>(alloc: Global) -> Result<Command<'a>, AllocError>
             "patience",
             "SECONDS",
             "How long a request is waited for, and its response [default: 30]",
+        ),
+    );
+    let command = with(
+        command,
+        option(
+            alloc,
+            "peers",
+            "N",
+            "How many connections are there at once; for one more the oldest idle one is closed [default: 256]",
         ),
     );
     let command = with(
@@ -287,7 +296,7 @@ fn top<'a>(alloc: Global) -> Command<'a>
         "whx12",
         "The book of a third-party warehouse that takes its orders as X12 interchanges",
         "whx12 COMMAND ..",
-        "The book:      init, enrol, roster, verify\nInterchanges:  send, take, serve\nClerks:        orders, count, pick, recount\nLooking:       stock, open, outbox, depositors\nMany at once:  batch\nTrying out:    script\n\nExample: whx12 init ZZ-WHSE1 --book harbor.book\nExample: whx12 enrol ZZ-ACME --book harbor.book\nExample: whx12 send advice.x12 --book harbor.book\nExample: whx12 script morning.txt\n\n`whx12 help COMMAND` says what a command wants. The exit status is 0 where all was done, 1 where something was refused, 2 where words can't be read, 3 at a fault.\n\nWhat a refusal or a fault is about is told in a line of its own on a terminal, and elsewhere where --explain is the last word.",
+        "The book:      init, enrol, roster, verify\nInterchanges:  send, take, serve\nClerks:        orders, count, pick, recount\nLooking:       stock, open, outbox, depositors\nMany at once:  batch\nTrying out:    script\n\nExample: whx12 init ZZ-WHSE1 --book harbor.book\nExample: whx12 enrol ZZ-ACME --book harbor.book\nExample: whx12 send advice.x12 --book harbor.book\nExample: whx12 script morning.txt\n\n`whx12 help COMMAND` says what a command wants. The exit status is 0 where all was done, 1 where something was refused, 2 where words can't be read, 3 at a fault.\n\nWhat a refusal or a fault is about is told in a line of its own on a terminal, and elsewhere where one of the words is --explain.",
     )
     .no_binary_name(true)
     .subcommand_required(true)

@@ -100,20 +100,47 @@ fn connections(alloc: Global, values: &ArgMatches<'_>) -> Result<u16, LineFault>
     }
 }
 
-// How many seconds a line says that a request is waited for, if it says it.
-fn patience(alloc: Global, values: &ArgMatches<'_>) -> Result<Option<u16>, LineFault>
-    ensures { meant.Reads (meant.SaysPatience (rows_of (found_of values.now))) result }
+// The number from 1 to 65535 that a line says as this option, if it says it; the fault where it is
+// none.
+fn few(
+    alloc: Global,
+    values: &ArgMatches<'_>,
+    id: &str,
+    fault: &str,
+) -> Result<Option<u16>, LineFault>
+    ensures { meant.Reads (meant.SaysFew (rows_of (found_of values.now)) id.now) result }
 {
-    let Some(text) = values.get_str("patience") else {
+    let Some(text) = values.get_str(id) else {
         return Ok(None);
     };
     match count_of(text.as_bytes()) {
-        Some(seconds) => Ok(Some(seconds)),
-        None => Err(usage(
-            alloc,
-            "--patience wants a number of seconds from 1 to 65535\n",
-        )),
+        Some(number) => Ok(Some(number)),
+        None => Err(usage(alloc, fault)),
     }
+}
+
+// How many seconds a line says that a request is waited for, if it says it.
+fn patience(alloc: Global, values: &ArgMatches<'_>) -> Result<Option<u16>, LineFault>
+    ensures { meant.Reads (meant.SaysFew (rows_of (found_of values.now)) (codes "patience")) result }
+{
+    few(
+        alloc,
+        values,
+        "patience",
+        "--patience wants a number of seconds from 1 to 65535\n",
+    )
+}
+
+// How many connections a line says that are there at once, if it says it.
+fn peers(alloc: Global, values: &ArgMatches<'_>) -> Result<Option<u16>, LineFault>
+    ensures { meant.Reads (meant.SaysFew (rows_of (found_of values.now)) (codes "peers")) result }
+{
+    few(
+        alloc,
+        values,
+        "peers",
+        "--peers wants a number of connections from 1 to 65535\n",
+    )
 }
 
 // The address that a line says, if it may be listened at: other machines know a depositor by its
@@ -149,6 +176,7 @@ pub(crate) fn service_of<'a>(
         address: guarded_address(alloc, values)?,
         count: connections(alloc, values)?,
         patience: patience(alloc, values)?,
+        peers: peers(alloc, values)?,
         clerks: has_flag(values, "clerks"),
         hosts: hosts_of(values),
     })

@@ -94,6 +94,8 @@ pub struct Service<'a> {
     /// How many seconds a request is waited for, and again its response, 1 to 65535, if the line
     /// says it.
     pub patience: Option<u16>,
+    /// How many connections are there at once, 1 to 65535, if the line says it.
+    pub peers: Option<u16>,
     /// Whether clerks' requests are taken too.
     pub clerks: bool,
     /// The names by which a request may call the server, with a comma between any two, if the line

@@ -27,7 +27,7 @@ pub use files::read_lines;
 pub use reasons::{KeptPair, reason, tell_cause, tell_reason, tell_unready};
 pub use script::{play_over, run_script};
 pub use served_files::{FileId, FileNames, ServedFile};
-pub use serving::{serve, serve_on};
+pub use serving::{crowd_of, serve, serve_on};
 pub use shows::{Look, ask, show};
 pub use slips::{Slip, sheet_text_of};
 pub use told::{CommandError, ExitStatus, tell_refusal, tell_stop, tell_text, usage};

@@ -13,7 +13,8 @@ use crate::verbosity::Verbosity;
 use command_line::Service;
 use http::StatusCode;
 use intake::{
-    Access, Audience, Connection, Doors, Patience, RequestLine, serve_within, write_sender,
+    Access, Audience, Callers, Connection, Crowd, Doors, Patience, RequestLine, serve_within,
+    write_sender,
 };
 use std::io;
 use std::net::TcpListener;
@@ -111,6 +112,16 @@ fn tell_end<E: io::Write>(err: &mut E, connection: &Connection) -> io::Result<()
     }
 }
 
+// Tells of responses that left in part alone, if there are any. What can't be told is left out.
+fn tell_lost<E: io::Write>(err: &mut E, lost: u32) {
+    if lost > 0 {
+        let _ = write!(
+            err,
+            "fault 44 Device: {lost} not taken whole by their peers\n"
+        );
+    }
+}
+
 // Tells of a connection on a line of its own: moment, peer, method, path, whose interchange was
 // handed in, status or fault, bytes and milliseconds, with `-` for what isn't known.
 fn tell_connection<E: io::Write>(err: &mut E, connection: &Connection) -> io::Result<()> {
@@ -134,6 +145,7 @@ fn moment_after(found: Option<Moment>, last: Moment) -> Moment
 // Serves as `serve_on` does, to those who have access. The clock's moment is what `ask` gives,
 // which is called once for each connection; None where the clock can't be used then.
 fn serve_asking<
+    L: Callers,
     K: Keeper,
     F: FnMut() -> Option<Moment>,
     A: FnMut() -> bool,
@@ -141,7 +153,7 @@ fn serve_asking<
     E: io::Write,
 >(
     rt: &HostRuntime,
-    listener: &TcpListener,
+    callers: &mut L,
     service: &Service<'_>,
     access: Access<'_>,
     book: &mut K,
@@ -178,7 +190,7 @@ fn serve_asking<
     };
     serve_within(
         rt.alloc(),
-        listener,
+        callers,
         service.count,
         book,
         access,
@@ -187,6 +199,7 @@ fn serve_asking<
             if tell_outcome(out, &connection.served.outcome).is_err() {
                 is_told = false;
             }
+            tell_lost(err, connection.lost);
             if verbosity.explains {
                 let _ = tell_connection(err, &connection);
             }
@@ -201,15 +214,15 @@ fn serve_asking<
     }
 }
 
-/// Serves so many connections of a listener as the service says, and prints what became of each.
+/// Serves so many connections as the service says, and prints what became of each.
 /// The moment of each is `first`, or the clock's if `has_clock`; where the clock can't be used, the
 /// last good one. Device (44) where an outcome couldn't be printed, which is told at the end;
 /// Reopen (42) where the book has to be opened again. Where it is asked for, a line on standard
 /// error tells of each connection; what can't be told there is left out. Device ends it at once
 /// where `admits`, which is asked before anything of a connection is read, says no.
-pub fn serve_on<K: Keeper, A: FnMut() -> bool, W: io::Write, E: io::Write>(
+pub fn serve_on<L: Callers, K: Keeper, A: FnMut() -> bool, W: io::Write, E: io::Write>(
     rt: &HostRuntime,
-    listener: &TcpListener,
+    callers: &mut L,
     service: &Service<'_>,
     book: &mut K,
     first: Moment,
@@ -229,7 +242,7 @@ pub fn serve_on<K: Keeper, A: FnMut() -> bool, W: io::Write, E: io::Write>(
 {
     serve_asking(
         rt,
-        listener,
+        callers,
         service,
         access_of(service),
         book,
@@ -249,6 +262,23 @@ fn tell_address<E: io::Write>(err: &mut E, listener: &TcpListener) {
     if let Ok(address) = listener.local_addr() {
         let _ = write!(err, "listening at {address}\n");
     }
+}
+
+/// The connections of a listener, as many at once as a service says.
+pub fn crowd_of<'r, 'a>(
+    rt: &'r HostRuntime,
+    listener: TcpListener,
+    service: &Service<'a>,
+) -> io::Result<Crowd<'r, 'a, HostRuntime>> {
+    Crowd::open(
+        rt,
+        rt.alloc(),
+        listener,
+        access_of(service),
+        service.count,
+        service.peers,
+        &patience_of(rt, service),
+    )
 }
 
 /// Serves the book of a file at an address, and where it is asked for says where it listens. Beyond
@@ -278,10 +308,16 @@ pub fn serve<K: Keeper, W: io::Write, E: io::Write>(
     if verbosity.explains {
         tell_address(err, &listener);
     }
+    let mut crowd = match crowd_of(rt, listener, service) {
+        Ok(crowd) => crowd,
+        Err(error) => return Err(about_address(rt.alloc(), &service.address, error)),
+    };
     let is_there = || file.is_there(rt);
-    match serve_on(
-        rt, &listener, service, book, first, has_clock, is_there, verbosity, out, err,
-    ) {
+    let ended = serve_on(
+        rt, &mut crowd, service, book, first, has_clock, is_there, verbosity, out, err,
+    );
+    tell_lost(err, crowd.finish());
+    match ended {
         Err(CommandError::Fault(Fault::Device)) if !file.is_there(rt) => {
             Err(about_replaced(rt.alloc(), file.name()))
         }

@@ -8,7 +8,7 @@ use Rattle.profile.specs.Moments.{Moment}
 use Rattle.store.specs.Standing.{Standing, IsUnchanged}
 use Rattle.intake.specs.declared.audience.Access.{Access}
 use Rattle.intake.specs.declared.served.Connection.{Connection}
-use Rattle.intake.specs.Connections.{HasTold, IsNotAccepted, IsConnectionOutcome, IsServedOn, moment_of}
+use Rattle.intake.specs.Connections.{HasTold, IsNotAccepted, IsConnectionOutcome, IsServedOf, IsServedOn, moment_of}
 use Rattle.intake.specs.Serving.{IsResponseWritten, IsUnread, IsUnwritten}
 
 -- by what its reader and its writer have, and what became of them
@@ -25,6 +25,25 @@ served_on access old new c known before later unread still unwritten more writte
   writes = (unwritten, more);
   written = written;
   stopped = stopped;
+}
+
+-- where its reader has what was sent
+pub served_of : (access : Access) (old new : Standing) (c : Connection) (known before later : Option (List ℕ)) (unread still unwritten more : ℕ) (sent : List ℕ) → known ≡ Some sent
+    → IfOk c.served.outcome (λ status. IsResponseWritten access old new known c.moment before later status c.served.line c.served.sender c.served.bytes)
+    → OnErr c.served.outcome (IsUnread old new known before later unread still c.served.line c.served.sender c.served.bytes
+    ⊎ IsUnwritten access old new known c.moment before later unwritten more c.served.line c.served.sender c.served.bytes)
+    → IsServedOf access old new sent c
+served_of access old new c known before later unread still unwritten more sent own written stopped = record {
+  served = record {
+    known = known;
+    before = before;
+    later = later;
+    reads = (unread, still);
+    writes = (unwritten, more);
+    written = written;
+    stopped = stopped;
+  };
+  own = own;
 }
 
 -- with a peer, and with none

@@ -1,5 +1,5 @@
 -- What a server tells of its connections.
-use Rattle.std.specs.Prelude.{◌≡◌, ◌⊎◌, ℕ, false, List, Option, None, Err, length, map, All, IfOk, IfErr, OnErr, MatchOption}
+use Rattle.std.specs.Prelude.{◌≡◌, ◌⊎◌, ℕ, false, List, Option, Some, None, Err, length, map, All, IfOk, IfErr, OnErr, MatchOption}
 use Rattle.std.specs.List.{FoldsTo}
 use Rattle.profile.specs.Moments.{Moment}
 use Rattle.store.specs.Standing.{Standing, IsUnchanged, GoesOn}
@@ -34,6 +34,12 @@ pub record IsServedOn (access : Access) (old new : Standing) (c : Connection) : 
       c.served.bytes
       ⊎ IsUnwritten access old new known c.moment before later writes.0 writes.1 c.served.line
       c.served.sender c.served.bytes)
+
+-- The same of a connection whose request was gathered before: the response is that to the bytes
+-- that its own peer sent.
+pub record IsServedOf (access : Access) (old new : Standing) (sent : List ℕ) (c : Connection) : Type 0 where
+  pub served : IsServedOn access old new c
+  pub own : served.known ≡ Some sent
 
 -- A connection that couldn't be accepted: nothing of it is known.
 pub record IsNotAccepted (c : Connection) : Type 0 where

@@ -3,8 +3,10 @@
 #![tactic(auto)]
 
 mod audience;
+mod callers;
 mod calls;
 mod clerks;
+mod crowd;
 mod heading;
 pub mod laws;
 mod listening;
@@ -24,6 +26,8 @@ mod targets;
 mod texts;
 
 pub use audience::{Access, Audience};
+pub use callers::{Caller, Callers};
+pub use crowd::Crowd;
 pub use doors::Doors;
 pub use folders::{
     FileOutcome, FolderStop, PassedOver, Taken, TakenFolder, WhyPassed, read_first,

@@ -1,15 +1,17 @@
 ghost use Rattle.std.specs.Prelude.{◌≡◌, ◌⊎◌, ◌≤◌, ℕ, Some, None, true, false, OnOk, OnErr, IfOk, IfErr, IsErrOf};
 ghost use Rattle.store.specs.Standing.{GoesOn};
 ghost use Rattle.intake.specs.Admitting.{of_partners};
-ghost use Rattle.intake.specs.Connections.{HasTold, IsConnection, IsNotAccepted, IsConnectionOutcome, IsServed, IsServedOn};
+ghost use Rattle.intake.specs.Connections.{HasTold, IsConnection, IsNotAccepted, IsConnectionOutcome, IsServed, IsServedOn, IsServedOf};
 
 use crate::audience::{Access, OF_PARTNERS};
+use crate::callers::{Caller, Callers, OneByOne};
 use crate::patience::{Patience, Patient, StoppedClock};
 use crate::served::{Connection, Served};
 use crate::serving::serve_telling;
 use gauges::Gauge;
+use peers::Arrival;
 use std::alloc::Global;
-use std::io::{self, Read};
+use std::io::Read;
 use std::net::{Shutdown, SocketAddr, TcpListener, TcpStream};
 use std::rt::Clock;
 use std::time::{Duration, Instant};
@@ -76,6 +78,41 @@ fn serve_on<K: Keeper, Q: Clock>(
         peer: Some(peer),
         served,
         millis,
+        lost: 0,
+    }
+}
+
+// Answers a connection whose request was gathered: by what its own peer sent, and by nothing else.
+fn answer_gathered<K: Keeper, L: Callers>(
+    alloc: Global,
+    callers: &mut L,
+    arrival: Arrival,
+    keeper: &mut K,
+    access: Access<'_>,
+    moment: Moment,
+) -> Connection
+    ensures moment { result.moment ≡ moment }
+    ensures peer { result.peer ≡ Some arrival.peer.address }
+    ensures outcome { IsConnectionOutcome result }
+    ensures served { IsServedOf access.entry (K.standing keeper.old) (K.standing keeper.new)
+        arrival.peer.bytes.items result }
+    ensures goes { GoesOn (K.standing keeper.old) (K.standing keeper.new) }
+{
+    let peer = arrival.address();
+    let mut reader = Gauge::new(arrival.reader());
+    let mut writer = Gauge::new(arrival.writer(alloc));
+    let served = serve_telling(alloc, &mut reader, &mut writer, keeper, access, moment);
+    let kept = writer.into_inner().into_kept();
+    let millis = Some(callers.millis_of(&arrival));
+    if served.outcome.is_ok() {
+        callers.let_leave(arrival, kept);
+    }
+    Connection {
+        moment,
+        peer: Some(peer),
+        served,
+        millis,
+        lost: callers.take_lost(),
     }
 }
 
@@ -96,35 +133,40 @@ fn not_accepted(moment: Moment) -> Connection
             bytes: 0,
         },
         millis: None,
+        lost: 0,
     }
 }
 
 // Serves a connection, if it was accepted.
 #[tactic(auto, using(crate::proofs::Told::accepted, crate::proofs::Told::not_accepted, store::proofs::Changes::unchanged_refl,))]
-fn serve_next<K: Keeper, Q: Clock>(
+fn serve_next<K: Keeper, L: Callers, Q: Clock>(
     alloc: Global,
-    accepted: io::Result<(TcpStream, SocketAddr)>,
+    callers: &mut L,
+    accepted: Option<Caller>,
     keeper: &mut K,
     access: Access<'_>,
     moment: Moment,
     patience: &Patience<'_, Q>,
 ) -> Connection
     ensures moment { result.moment ≡ moment }
-    ensures peer { IfOk accepted (λ a. result.peer ≡ Some a.1) }
-    ensures nobody { OnErr accepted (result.peer ≡ None) }
     ensures outcome { IsConnectionOutcome result }
     ensures served { IsConnection access.entry (K.standing keeper.old) (K.standing keeper.new)
         result }
     ensures goes { GoesOn (K.standing keeper.old) (K.standing keeper.new) }
 {
     match accepted {
-        Ok((stream, peer)) => serve_on(alloc, &stream, peer, keeper, access, moment, patience),
-        Err(_) => not_accepted(moment),
+        Some(Caller::Direct(stream, peer)) => {
+            serve_on(alloc, &stream, peer, keeper, access, moment, patience)
+        }
+        Some(Caller::Gathered(arrival)) => {
+            answer_gathered(alloc, callers, arrival, keeper, access, moment)
+        }
+        None => not_accepted(moment),
     }
 }
 
 /// Serves that many connections to those who have access, one after the other, each at the moment
-/// that `clock` gives once it is accepted, and hands each to `told` with what became of it: the
+/// that `clock` gives once it is its turn, and hands each to `told` with what became of it: the
 /// status that was answered, or Device (44). A request or a response that takes longer than the
 /// patience is Device too. An accept that fails is Device at the moment that `clock` gives then,
 /// and counts as a connection.
@@ -138,6 +180,7 @@ fn serve_next<K: Keeper, Q: Clock>(
 /// each is as `IsServed` says of its book before, which needn't be opened again, and after.
 /// Whatever ends it, the book is as the last of them left it.
 pub fn serve_within<
+    L: Callers,
     K: Keeper,
     C: FnMut() -> Moment,
     T: FnMut(Connection),
@@ -145,7 +188,7 @@ pub fn serve_within<
     Q: Clock,
 >(
     alloc: Global,
-    listener: &TcpListener,
+    callers: &mut L,
     count: u16,
     keeper: &mut K,
     access: Access<'_>,
@@ -174,12 +217,12 @@ pub fn serve_within<
         if keeper.must_reopen() {
             return Err(Fault::Reopen);
         }
-        let accepted = listener.accept();
+        let accepted = callers.next_caller();
         if !admits() {
             return Err(Fault::Device);
         }
         let moment = clock();
-        let connection = serve_next(alloc, accepted, keeper, access, moment, patience);
+        let connection = serve_next(alloc, callers, accepted, keeper, access, moment, patience);
         told(connection);
     }
     if keeper.must_reopen() {
@@ -218,7 +261,7 @@ pub fn serve_count<K: Keeper, C: FnMut() -> Moment, T: FnMut(Connection)>(
     };
     serve_within(
         alloc,
-        listener,
+        &mut OneByOne { listener },
         count,
         keeper,
         OF_PARTNERS,

@@ -58,4 +58,7 @@ pub struct Connection {
     /// The milliseconds from its acceptance to the end of its response. None where it couldn't be
     /// accepted, and where the timer couldn't be read.
     pub millis: Option<u64>,
+    /// How many responses of connections before this one weren't taken whole by their peers, since
+    /// the last connection was told.
+    pub lost: u32,
 }

@@ -113,8 +113,8 @@ struct Received {
     line: Option<RequestLine>,
 }
 
-// The status by which the doors turn a request away whose head was read, if they do.
-fn barred(
+/// The status by which the doors turn a request away whose head was read, if they do.
+pub(crate) fn barred(
     doors: Option<Doors<'_>>,
     got: &[u8],
     fields: &[HeaderSpan],

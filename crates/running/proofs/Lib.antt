@@ -1,3 +1,4 @@
+pub mod Asking
 mod BeginLemmas
 mod StopLemmas
 mod NothingLemmas

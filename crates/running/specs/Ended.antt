@@ -14,7 +14,7 @@ use Rattle.commands.specs.Files.{reads_any}
 use Rattle.commands.specs.Statuses.{code_of, status_of_stop}
 use Rattle.commands.specs.Stops.{HasDeviceFault, fault_in}
 use Rattle.commands.specs.declared.told.ExitStatus.{ExitStatus}
-use Rattle.running.specs.Explaining.{AsksWhy}
+use Rattle.running.specs.Explaining.{without_asking}
 use Rattle.running.specs.Faults.{is_in_use}
 use Rattle.running.specs.FileEnds.{IsRunEnd}
 use Rattle.running.specs.Working.{IsJobFor, IsNoJobFor}
@@ -96,12 +96,18 @@ module _ {D : Type 0} {disk : Disks D} where
     IsLineEnded said before later ending files = HasLineEnded said before later ending files
         ⊎ (files ≡ left.Untouched)
 
-    -- what a line of the program came to, with its exit status; its last word may ask for why
+    -- what the words of a line came to, with the exit status
+    pub record IsLineRun
+        (line : List (Bor (List ℕ))) (before later : W) (code : ℕ) (files : FilesLeft D disk)
+        : Type 0 where
+      pub ending : Ending
+      pub ended : IsLineEnded line before later ending files
+      pub says : code ≡ code_of (status_of_ending ending)
+
+    -- the same of a line of the program, one of whose words may ask for explanations
     pub record IsProgramRun
         (said : List (Bor (List ℕ))) (before later : W) (code : ℕ) (files : FilesLeft D disk)
         : Type 0 where
       pub line : List (Bor (List ℕ))
-      pub is_line : (line ≡ said) ⊎ AsksWhy said line
-      pub ending : Ending
-      pub ended : IsLineEnded line before later ending files
-      pub says : code ≡ code_of (status_of_ending ending)
+      pub is_line : (line ≡ said) ⊎ (without_asking said ≡ Some line)
+      pub run : IsLineRun line before later code files

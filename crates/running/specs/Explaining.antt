@@ -1,15 +1,19 @@
 -- Whether a line of words asks that a refusal and a fault are explained.
-use Rattle.std.specs.Prelude.{◌≡◌, ℕ, Bool, true, false, List, codes, bytes_eq}
+use Rattle.std.specs.Prelude.{ℕ, Bool, List, [], ◌∷◌, if◌then◌else◌, Option, Some, None, option_map, codes, bytes_eq}
 use Rattle.std.specs.Borrow.{Bor}
-use Rattle.std.specs.List.{list_any, IsLastAndRest}
 
 -- after this word all words are values
 abbrev pub ends_options : Bor (List ℕ) → Bool
 ends_options word = bytes_eq word.now (codes "--")
 
--- the last word asks for it, and is no value
-pub record AsksWhy (words before : List (Bor (List ℕ))) : Type 0 where
-  pub last : Bor (List ℕ)
-  pub is_last : IsLastAndRest words last before
-  pub asks : bytes_eq last.now (codes "--explain") ≡ true
-  pub no_value : list_any ends_options before ≡ false
+-- this word asks for it, unless it is a value
+abbrev pub asks : Bor (List ℕ) → Bool
+asks word = bytes_eq word.now (codes "--explain")
+
+-- the words without the first that asks for it, if one does
+abbrev pub without_asking : List (Bor (List ℕ)) → Option (List (Bor (List ℕ)))
+without_asking [] = None
+without_asking (word ∷ words) =
+    if asks word then Some words
+    else (if ends_options word then None
+    else option_map (λ line. word ∷ line) (without_asking words))

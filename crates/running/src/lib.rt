@@ -5,6 +5,7 @@
 
 mod book_files;
 mod checking;
+mod explaining;
 mod from_file;
 mod over_file;
 mod over_server;

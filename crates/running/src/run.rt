@@ -1,22 +1,21 @@
-ghost use Rattle.std.specs.Prelude.{◌≡◌, true, false, ℕ, List, IfErr, OnOk, map};
-ghost use Rattle.std.specs.Borrow.{Bor};
-ghost use Rattle.std.specs.List.{list_any};
+ghost use Rattle.std.specs.Prelude.{◌≡◌, true, IfErr, OnOk, map};
 ghost use Rattle.std.specs.Io.KnownBytes.{Appends};
 ghost use Rattle.commands.specs.Statuses.{IsCode};
 ghost use Rattle.commands.specs.Stops.{IsDeviceStop};
 ghost use Rattle.sqlite.specs.WalFiles.{image_at};
-ghost use Rattle.running.specs.Ended.{IsLineEnded, IsProgramRun, IsWordsEnded, says_wary};
+ghost use Rattle.running.specs.Ended.{IsLineEnded, IsLineRun, IsProgramRun, IsWordsEnded, says_wary};
 ghost use Rattle.command_line.specs.Asked.{IsLineRead};
 ghost use Rattle.command_line.specs.declared.words.Place.TheVariants.{Program};
-ghost use Rattle.running.specs.Explaining.{AsksWhy, ends_options};
 
+use crate::explaining::without_asking;
 use crate::from_file::{Ended, FilesLeft};
 use crate::over_server::run_over_server;
 use crate::waiting::{ended_before, run_over_file};
 use command_line::{LineFault, Place, Words, line};
 use commands::{CommandError, ExitStatus, Verbosity, run_script, tell_stop, usage};
 use sqlite::{FileFrom, Start, Unknown, Wary};
-use std::alloc::Global;
+use sqlite_disk::Disk;
+use std::alloc::{AllocError, Global};
 use std::io::{self, IsTerminal};
 
 // The program's version, which is that of the rules by which it judges.
@@ -119,31 +118,42 @@ fn run_any<S: Start, F: FnMut() -> S, W: io::Write, E: io::Write>(
     }
 }
 
-// Whether all words after this one are values.
-fn ends_options(word: &str) -> bool
-    ensures { result ≡ ends_options word.entry }
-{
-    word == "--"
-}
+// Runs the words of a line, of which it is known whether they ask for explanations, and tells what
+// stopped them.
+fn run_told<S: Start, F: FnMut() -> S, W: io::Write, E: io::Write>(
+    rt: &HostRuntime,
+    starts: F,
+    words: &[&str],
+    is_asked: bool,
+    out: &mut W,
+    err: &mut E,
+) -> (u8, FilesLeft<FileFrom<S>>)
+    requires { F.IsAlwaysCallable starts }
 
-// Whether all words after one of these are values.
-fn any_ends(words: &[&str]) -> bool
-    ensures { result ≡ list_any ends_options words.now }
+    ensures run { IsLineRun W.contents (image_at S.Start) words.now out.old out.new result.0
+        result.1 }
+    ensures code { IsCode result.0 }
 {
-    words.iter().any(|word| ends_options(word))
-}
-
-// Whether the last word asks that a refusal and a fault are explained, and the words before it.
-fn asks_why<'w, 'a>(words: &'w [&'a str]) -> (bool, &'w [&'a str])
-    ensures asked { result.0 ≡ true → AsksWhy words.now result.1.now }
-    ensures others { result.0 ≡ false → result.1.now ≡ words.now }
-    ensures none { result.0 ≡ false → (before : List (Bor (List ℕ))) → AsksWhy words.now before
-        → ⊥ }
-{
-    match words.split_last() {
-        Some((last, before)) if *last == "--explain" && !any_ends(before) => (true, before),
-        _ => (false, words),
+    let watches = rt.stderr().is_terminal();
+    let explains = is_asked || watches;
+    let verbosity = Verbosity { explains, watches };
+    let Ended { ending, files } = run_any(rt, starts, words, verbosity, out, err);
+    match ending {
+        Ok(status) => (status.code(), files),
+        Err(stop) => (tell_stop(err, &stop, explains).code(), files),
     }
+}
+
+// No memory for the words of a line: nothing was opened.
+fn stopped_before<D: Disk + Drop, E: io::Write>(
+    error: AllocError,
+    err: &mut E,
+) -> (u8, FilesLeft<D>)
+    ensures says { result.0 ≡ 3 }
+    ensures files { result.1 ≡ FilesLeft.Untouched }
+{
+    let code = tell_stop(err, &CommandError::from(error), false).code();
+    (code, FilesLeft::Untouched)
 }
 
 /// Runs one line of words, without the program's name, over files of which it is said by `S` what
@@ -163,14 +173,10 @@ pub fn command_from<S: Start, F: FnMut() -> S, W: io::Write, E: io::Write>(
         result.1 }
     ensures code { IsCode result.0 }
 {
-    let (is_asked, words) = asks_why(words);
-    let watches = rt.stderr().is_terminal();
-    let explains = is_asked || watches;
-    let verbosity = Verbosity { explains, watches };
-    let Ended { ending, files } = run_any(rt, starts, words, verbosity, out, err);
-    match ending {
-        Ok(status) => (status.code(), files),
-        Err(stop) => (tell_stop(err, &stop, explains).code(), files),
+    match without_asking(rt.alloc(), words) {
+        Ok(Some(line)) => run_told(rt, starts, &line, true, out, err),
+        Ok(None) => run_told(rt, starts, words, false, out, err),
+        Err(error) => stopped_before(error, err),
     }
 }
 
@@ -203,8 +209,16 @@ fn is_wary(alloc: Global, words: &[&str]) -> bool
     says_wary(&asked)
 }
 
+// The same of a line that may ask for explanations too. The one error is want of memory.
+fn is_line_wary(alloc: Global, words: &[&str]) -> Result<bool, AllocError> {
+    match without_asking(alloc, words)? {
+        Some(line) => Ok(is_wary(alloc, &line)),
+        None => Ok(is_wary(alloc, words)),
+    }
+}
+
 /// Runs one line of words, without the program's name: its output goes to `out`, its refusals and
-/// faults to `err`. Where the last word is `--explain`, and on a terminal, what a fault or a
+/// faults to `err`. Where one of the words is `--explain`, and on a terminal, what a fault or a
 /// refused sheet is about is told after it. The exit status is 0 where all was done or help was
 /// shown, 1 where something was refused, 2 where the words can't be read, 3 at a fault.
 ///
@@ -218,8 +232,9 @@ pub fn command<W: io::Write, E: io::Write>(
 ) -> u8
     ensures { IsCode result }
 {
-    if is_wary(rt.alloc(), asks_why(words).1) {
-        return command_from(rt, || Wary, words, out, err).0;
+    match is_line_wary(rt.alloc(), words) {
+        Ok(true) => command_from(rt, || Wary, words, out, err).0,
+        Ok(false) => command_from(rt, || Unknown, words, out, err).0,
+        Err(error) => tell_stop(err, &CommandError::from(error), false).code(),
     }
-    command_from(rt, || Unknown, words, out, err).0
 }

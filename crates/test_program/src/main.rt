@@ -18,6 +18,7 @@ mod playing;
 mod plays;
 mod ran;
 mod served;
+mod serving;
 mod telling;
 mod texts;
 mod usage;

@@ -3,10 +3,11 @@ ghost use Rattle.std.specs.Prelude.{◌≡◌, false};
 
 use crate::left::open_book;
 use crate::ran::{Wanted, do_lines, run_lines};
+use crate::serving::{Nobody, Told, served, service_at, told_of};
 use crate::telling::{hold, tell};
 use crate::texts::{advice, answer, remove_book, text_of};
 use cases::clerks::response_of;
-use commands::{ServedFile, Service, Verbosity, serve_on};
+use commands::ServedFile;
 use sqlite::{Alter, Connection};
 use std::fs;
 use std::io::{Read, Write};
@@ -41,55 +42,6 @@ fn enrolled(rt: &HostRuntime, moment: Moment) -> Result<ReplayBook, Fail> {
     let mut book = ReplayBook::new(rt.alloc(), Warehouse::new(who));
     enrol(rt, &mut book, moment)?;
     Ok(book)
-}
-
-// What was printed of two connections, and what was told of them on standard error.
-#[derive(Drop)]
-struct Told {
-    out: Vec<u8>,
-    err: String,
-}
-
-// Serves two connections, and has each of them told.
-fn served<K: Keeper>(
-    rt: &HostRuntime,
-    listener: &TcpListener,
-    book: &mut K,
-    moment: Moment,
-    has_clock: bool,
-    clerks: bool,
-) -> Result<Told, Fail> {
-    let (mut out, mut err) = (Vec::new(rt.alloc()), Vec::new(rt.alloc()));
-    let loud = Verbosity {
-        explains: true,
-        watches: false,
-    };
-    let service = Service {
-        address: listener.local_addr()?,
-        count: 2,
-        patience: None,
-        clerks,
-        hosts: None,
-    };
-    let status = serve_on(
-        rt,
-        listener,
-        &service,
-        book,
-        moment,
-        has_clock,
-        || true,
-        loud,
-        &mut out,
-        &mut err,
-    );
-    match status {
-        Ok(_) => Ok(Told {
-            out,
-            err: String::from_utf8(err)?,
-        }),
-        Err(_) => Err("a fault".into()),
-    }
 }
 
 // Connects to an address, and writes a request.
@@ -215,21 +167,21 @@ fn are_posted<K: Keeper>(
 const NOT_ACCEPTED: &str =
     "2025-03-04T09:15 - - - - 44 0 bytes\n2025-03-04T09:15 - - - - 44 0 bytes\n";
 
-// Whether two that couldn't be accepted, since no client waits, are told as 44.
+// Whether two that couldn't be accepted are told as 44.
 fn are_not_accepted<K: Keeper>(
     rt: &HostRuntime,
     listener: &TcpListener,
     book: &mut K,
     moment: Moment,
 ) -> Result<bool, Fail> {
-    listener.set_nonblocking(true)?;
-    let told = served(rt, listener, book, moment, false, false)?;
+    let service = service_at(listener, false)?;
+    let told = told_of(rt, &mut Nobody, &service, book, moment, false)?;
     let printed = b"fault 44 Device\nfault 44 Device\n".as_slice();
     Ok(told.out.as_slice() == printed && told.err.as_str() == NOT_ACCEPTED)
 }
 
 // Clients that wrote before they are served, one after the other: two by the clock, and two at one
-// moment. Where no client waits an accept fails, which is told as 44 and counts as a connection.
+// moment. One that can't be accepted is told as 44, and counts as a connection.
 fn each_connection_is_told(rt: &HostRuntime) -> Result<(), Fail> {
     let moment = Moment::new(2025, 3, 4, 9, 15).ok_or("a moment")?;
     let mut book = enrolled(rt, moment)?;

@@ -6,8 +6,9 @@ use Rattle.sqlite.specs.Order.{column}
 use Rattle.sqlite.specs.declared.types.Value.TheVariants.{Blob}
 use Rattle.store.specs.declared.rows.OutRow.{OutRow as OutRowOf}
 use Rattle.profile.specs.Rows.{OutRow}
-use Rattle.book_tables.specs.Showing.{out_shown, HasText}
+use Rattle.book_tables.specs.Showing.{out_shown, HasKindAndState, IsOut}
 use Rattle.book_tables.proofs.Places.{at_place, all_more, taken_more, whole_taken, kept_more, passed_more, not_none, none_at_all}
+use Rattle.book_tables.proofs.ReadLemmas.{if_there}
 use Rattle.book_tables.proofs.sent.out_rows_in.Goals as goal
 use Rattle.book_tables.proofs.sent.out_rows_in.Goals.{then-not-is_empty+in_ok-push, else-not-is_empty}
 
@@ -29,7 +30,8 @@ loop-row-preserved c = (
   let i = c.loop-row.row-index in
       let more = taken_more c.args.rows.now i c.row-item.result c.loop-row-test.true c.row-item.is in
       let told = subst (λ (o : Option OutRow). IfSome o (λ r. column c.row-item.result 2 ≡ Blob r.content)) c.in-Some.is c.in_ok-sent.ensures.text in
-      subst (AllByRecursion HasText) (sym more) (all_more HasText (take i c.args.rows.now) c.row-item.result c.loop-row.invariant.0 (_, told)),
+      let known = if_there (HasKindAndState c.row-item.result 1 3) _ _ c.in-Some.is c.in_ok-sent.ensures.known in
+      subst (AllByRecursion IsOut) (sym more) (all_more IsOut (take i c.args.rows.now) c.row-item.result c.loop-row.invariant.0 ((_, told), known)),
   λ rs sent is.
       let at = at_place out_shown c.args.rows.now rs c.loop-row.row-index c.row-item.result is c.loop-row-test.true c.row-item.is in
       let some = c.in_ok-sent.ensures.shows at.row (sent at.row at.there) at.shows in
@@ -57,4 +59,4 @@ returns-clause-shows c rs sent is =
     ap Some (c.loop-row.invariant.1 rs sent is ∙ ap (filter has_content) (whole_taken out_shown c.args.rows.now rs c.loop-row.row-index is past))
 
 pub returns-clause-all : goal.returns-clause-all
-returns-clause-all c = subst (AllByRecursion HasText) (take_all c.loop-row.row-index c.args.rows.now (omega (arith, c.loop-row-test.false))) c.loop-row.invariant.0
+returns-clause-all c = subst (AllByRecursion IsOut) (take_all c.loop-row.row-index c.args.rows.now (omega (arith, c.loop-row-test.false))) c.loop-row.invariant.0

@@ -1,29 +1,31 @@
-use Rattle.std.proofs.Common.{inl, inr, sym, ap, ◌∙◌}
-use Rattle.std.proofs.lemmas.Bool.{cases_Bool}
-use Rattle.commands.specs.Statuses.{code_of}
-use Rattle.running.specs.Ended.{status_of_ending}
+use Rattle.std.proofs.Common.{inl, inr, refl, sym, ap, ◌∙◌}
+use Rattle.std.specs.Prelude.{Some, Err, option_map}
+use Rattle.commands.specs.declared.told.CommandError.TheVariants as stopped
+use Rattle.store.specs.Fault.TheVariants.{OutOfMemory}
 use Rattle.running.proofs.run.command_from.Goals as goal
 
-pub returns-in-Ok-clause-run : goal.returns-in-Ok-clause-run
-returns-in-Ok-clause-run g c = record {
-  line = c.asks_why-is_asked.result.1.now;
-  is_line = elim (cases_Bool c.asks_why-is_asked.result.0) [
-    | inl asks ↦ inr (c.asks_why-is_asked.ensures.asked asks)
-    | inr plain ↦ inl (c.asks_why-is_asked.ensures.others plain)
-  ];
-  ending = c.run_any-ending.result.ending;
-  ended = c.run_any-ending.ensures;
-  says = c.code.ensures ∙ ap (λ e. code_of (status_of_ending e)) (sym c.in-Ok.is);
+pub returns-in-Ok-Some-clause-run : goal.returns-in-Ok-Some-clause-run
+returns-in-Ok-Some-clause-run g c = record {
+  line = c.deref.result.now;
+  is_line = inr (sym c.in-Ok-Some.ensures ∙ ap (option_map (λ v. v.items)) c.in-Ok-Some.field-0-is
+      ∙ ap Some (sym c.deref.ensures.value));
+  run = c.run_told.ensures.run;
+}
+
+pub returns-in-Ok-None-clause-run : goal.returns-in-Ok-None-clause-run
+returns-in-Ok-None-clause-run g c = record {
+  line = c.args.words.now;
+  is_line = inl refl;
+  run = c.run_told-in-Ok-None.ensures.run;
 }
 
 pub returns-in-Err-clause-run : goal.returns-in-Err-clause-run
 returns-in-Err-clause-run g c = record {
-  line = c.asks_why-is_asked.result.1.now;
-  is_line = elim (cases_Bool c.asks_why-is_asked.result.0) [
-    | inl asks ↦ inr (c.asks_why-is_asked.ensures.asked asks)
-    | inr plain ↦ inl (c.asks_why-is_asked.ensures.others plain)
-  ];
-  ending = c.run_any-ending.result.ending;
-  ended = c.run_any-ending.ensures;
-  says = c.code-in-Err.ensures ∙ ap code_of c.tell_stop.ensures ∙ ap (λ e. code_of (status_of_ending e)) (sym c.in-Err.is);
+  line = c.args.words.now;
+  is_line = inl refl;
+  run = record {
+    ending = Err (stopped.Fault OutOfMemory);
+    ended = inr c.stopped_before.ensures.files;
+    says = c.stopped_before.ensures.says;
+  };
 }

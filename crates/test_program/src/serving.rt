@@ -1,0 +1,101 @@
+//! Two connections served, and what is told of them.
+use commands::{Service, Verbosity, crowd_of, serve_on};
+use intake::{Caller, Callers};
+use peers::Arrival;
+use std::io;
+use std::net::TcpListener;
+use std::test::Fail;
+use store::{Keeper, Moment};
+
+// What was printed of two connections, and what was told of them on standard error.
+#[derive(Drop)]
+pub(crate) struct Told {
+    pub(crate) out: Vec<u8>,
+    pub(crate) err: String,
+}
+
+// Serves two of these callers, and has each of them told.
+pub(crate) fn told_of<L: Callers, K: Keeper>(
+    rt: &HostRuntime,
+    callers: &mut L,
+    service: &Service<'_>,
+    book: &mut K,
+    moment: Moment,
+    has_clock: bool,
+) -> Result<Told, Fail> {
+    let (mut out, mut err) = (Vec::new(rt.alloc()), Vec::new(rt.alloc()));
+    let loud = Verbosity {
+        explains: true,
+        watches: false,
+    };
+    let status = serve_on(
+        rt,
+        callers,
+        service,
+        book,
+        moment,
+        has_clock,
+        || true,
+        loud,
+        &mut out,
+        &mut err,
+    );
+    match status {
+        Ok(_) => Ok(Told {
+            out,
+            err: String::from_utf8(err)?,
+        }),
+        Err(_) => Err("a fault".into()),
+    }
+}
+
+// A service at a listener's address, of two connections.
+pub(crate) fn service_at(listener: &TcpListener, clerks: bool) -> io::Result<Service<'static>> {
+    Ok(Service {
+        address: listener.local_addr()?,
+        count: 2,
+        patience: None,
+        peers: None,
+        clerks,
+        hosts: None,
+    })
+}
+
+// Serves two connections, and has each of them told.
+pub(crate) fn served<K: Keeper>(
+    rt: &HostRuntime,
+    listener: &TcpListener,
+    book: &mut K,
+    moment: Moment,
+    has_clock: bool,
+    clerks: bool,
+) -> Result<Told, Fail> {
+    let service = service_at(listener, clerks)?;
+    let mut crowd = crowd_of(rt, listener.try_clone()?, &service)?;
+    let told = told_of(rt, &mut crowd, &service, book, moment, has_clock)?;
+    if crowd.finish() == 0 {
+        Ok(told)
+    } else {
+        Err("a response is lost".into())
+    }
+}
+
+// Nobody can be accepted.
+#[derive(Drop)]
+pub(crate) struct Nobody;
+
+impl Callers for Nobody {
+    fn next_caller(&mut self) -> Option<Caller> {
+        None
+    }
+
+    fn let_leave(&mut self, _arrival: Arrival, _kept: Vec<u8>) {}
+
+    fn millis_of(&self, _arrival: &Arrival) -> u64 {
+        0
+    }
+
+    fn take_lost(&mut self) -> u32 {
+        0
+    }
+}

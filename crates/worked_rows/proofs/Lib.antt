@@ -1,0 +1,6 @@
+mod RowsLots
+pub mod RowsFullOrder
+mod RowsFullAnswer
+mod RowsSheetLimits
+mod RowsLastNumber
+mod RowsPicking
