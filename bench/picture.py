@@ -35,7 +35,7 @@ LAYERS = [
           ["repeats rules sets_taken stock goods sheets"]),
     Layer("The book", "", 158, 290, 158, ["store"]),
     Layer("SQLite", "the book in tables", 430, 290, 330,
-          ["books book_tables ram_disk", "book_transactions book_statements"]),
+          ["books book_tables ram_disk", "book_transactions book_statements seals"]),
     Layer("Edges", "what comes in, and what people see", 158, 98, 442,
           ["commands command_line errands -", "folders reports sheet_texts -",
            "intake doors fields peers gauges"]),

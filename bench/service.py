@@ -16,11 +16,12 @@ stops      inbox.sh is ended by kill -9 before and after each of its steps, alon
            and at moments by chance: the next runs have each text in the book once, with its answer
 outboxes   documents are handed on once, again where they are removed or empty, on the disk before they
            have their name, and not at all where the program fails or the script is killed
-backups    a backup is made and checked, and a damaged one is told; the server is started again after
+backups    a backup is made, checked and sealed, and a damaged one and one of an older book are told; the server is started again after
            each signal and failure; KEEP
 units      no warning, an exposure of at most 2.5, and the server makes no call that its unit refuses
 sites      nginx in front of a server: without a password it answers 401, with one the advice is answered,
-           and a slow body holds up nobody
+           and a slow body holds up nobody; each login gets 403 for another depositor's stock, outbox, texts
+           and interchanges, whatever fields it sends, and nothing is recorded
 
 Status 1 where something differs; the folder is then kept.
 """
@@ -169,6 +170,11 @@ class House:
         return self.run(["whx12", "verify", "--book", self.book])
 
 
+def told_name(name):
+    """A name as it is told: a line feed in it by its number."""
+    return name.replace("\n", "\\x0a")
+
+
 def inboxes(house):
     """Inboxes that are taken and cleared."""
     house.put(text_of(1), "in", "a b.x12")
@@ -187,7 +193,7 @@ def inboxes(house):
     for number, name in enumerate(names, 2):
         house.put(text_of(number), "in", name)
     status, out, told = house.take()
-    same("odd names", (status, sorted(out), told), (0, sorted("".join(f"{name} accepted\n" for name in names)), ""))
+    same("odd names", (status, sorted(out), told), (0, sorted("".join(f"{told_name(name)} accepted\n" for name in names)), ""))
     same("odd names that were moved", house.has("done", house.has("done")[-1]), sorted(names + [f"{name}.ans" for name in names]))
     same("no odd name stays", house.has("in"), ["notes.txt"])
     refuses(house)
@@ -357,11 +363,17 @@ def outboxes(house):
         os.remove(file)
 
 
+def sealed(result):
+    """A status with what was printed and told, SEAL in place of a seal's digits."""
+    return result[0], re.sub(r":[0-9a-f]{64}\n", ":SEAL\n", result[1]), result[2]
+
+
 def backups(house):
     """Backups that are checked, whatever ends them."""
     house.counted()
-    same("backup.sh", house.back_up(), (0, "ok 3\n", ""))
+    same("backup.sh", sealed(house.back_up()), (0, "ok 3\n3:SEAL\n", ""))
     first, = house.has("backup")
+    same("its seal", re.fullmatch(r"3:[0-9a-f]{64}\n", house.read("backup", first, "seal")) is not None, True)
     same("its copy", (re.fullmatch(r"\d{4}-\d\d-\d\dT\d{6}", first) is not None, "harbor.book" in house.has("backup", first)), (True, True))
     subprocess.run(["sqlite3", house.book, "UPDATE stock SET on_hand = 89"], check=True)
     status, _, told = house.back_up("", "1")
@@ -377,7 +389,7 @@ def backups(house):
         return log
 
     with house.wrapped(systemctl='#!/bin/sh\necho "$@" >>' + house.at("log") + "\n"):
-        same("with a server", (house.back_up("whx12")[:2], asked()), ((0, "ok 3\n"), again))
+        same("with a server", (sealed(house.back_up("whx12"))[:2], asked()), ((0, "ok 3\n3:SEAL\n"), again))
         for moment in (("systemctl", 1, "after"), ("cp", 1, "before"), ("systemctl", 2, "before"), ("systemctl", 2, "after")):
             for number in (signal.SIGTERM, signal.SIGINT, signal.SIGHUP, signal.SIGQUIT):
                 before = house.has("backup")
@@ -389,7 +401,18 @@ def backups(house):
         same("no book", (house.script("backup.sh", house.at("no.book"), house.at("backup"), "whx12")[0], asked()), (1, again))
     with house.wrapped(systemctl=f'#!/bin/sh\necho "$@" >>{house.at("log")}\n[ $1 = start ]\n'):
         same("a server that can't be stopped", (house.back_up("whx12")[0], asked()), (1, again))
+    older(house)
     keeps(house)
+
+
+def older(house):
+    """A book that was put in place of one with more entries, which is whole for itself."""
+    os.rename(house.book, house.at("whole.book"))
+    for words in (["init", "ZZ-WHSE1"], ["enrol", "ZZ-ACME"]):
+        same(words, house.whx12(*words)[0], 0)
+    status, out, told = house.back_up()
+    same("an older book", (status, out, "lacks an entry that was sealed" in told), (3, "ok 1\n", True))
+    os.replace(house.at("whole.book"), house.book)
 
 
 def keeps(house):
@@ -404,11 +427,11 @@ def keeps(house):
     others += ["2019-01-03T000000", "2019-01-04T000000"]
     for keep in ("0", "", "-1", "x", "03", "1 "):
         same(f"KEEP {keep}", (house.back_up("", keep)[0], len(house.has("backup"))), (3, len(old + others) + 1))
-    same("KEEP 3", house.back_up("", "3"), (0, "ok 3\n", ""))
+    same("KEEP 3", sealed(house.back_up("", "3")), (0, "ok 3\n3:SEAL\n", ""))
     new = [name for name in house.has("backup") if name > "2021" and name not in others]
     same("what is kept", (len(new), house.has("backup")), (1, sorted([*old[-2:], *others, *new])))
     house.put("", "backup", "2999-01-01T000000", "harbor.book")
-    same("KEEP 1", house.back_up("", "1"), (0, "ok 3\n", ""))
+    same("KEEP 1", sealed(house.back_up("", "1")), (0, "ok 3\n3:SEAL\n", ""))
     newest = [name for name in house.has("backup") if "2021" < name < "2999"]
     same("the newest stays, whatever the clock says", (len(newest), newest > new, house.has("backup")), (1, True, sorted([*others, *newest])))
 
@@ -478,18 +501,18 @@ def sites(house):
     subprocess.run(["openssl", "req", "-x509", "-newkey", "rsa:2048", "-nodes", "-days", "2", "-subj", "/CN=localhost", "-keyout", house.at("key.pem"), "-out",
                     house.at("cert.pem")], check=True, capture_output=True)
     hashed = subprocess.run(["openssl", "passwd", "-apr1", "secret"], check=True, capture_output=True, text=True).stdout
-    house.put("holm:" + hashed, "users")
+    house.put("".join(f"{login}:{hashed}" for login in ("holm", "tearoom", "nobody")), "users")
     with open(os.path.join(SERVICE, "whx12.nginx"), encoding="utf-8") as file:
         site = file.read()
     for old, new in (("listen 443 ssl", f"listen 127.0.0.1:{front} ssl"), ("/etc/ssl/certs/edi.example.com.pem", house.at("cert.pem")),
                      ("/etc/ssl/private/edi.example.com.key", house.at("key.pem")), ("/etc/nginx/whx12.htpasswd", house.at("users")),
-                     ("127.0.0.1:8080", f"127.0.0.1:{behind}")):
+                     ("ZZ-HOLM", "ZZ-ACME"), ("127.0.0.1:8080", f"127.0.0.1:{behind}")):
         assert old in site
         site = site.replace(old, new)
     house.put("user root;\npid " + house.at("pid") + ";\nerror_log " + house.at("error.log") + ";\nevents {}\nhttp {\naccess_log off;\n"
               + "".join(f"{kind}_temp_path {house.at(kind)};\n" for kind in ("client_body", "proxy", "fastcgi", "uwsgi", "scgi")) + site + "}\n", "nginx.conf")
     same("nginx -t", house.run(["nginx", "-t", "-q", "-c", house.at("nginx.conf"), "-e", house.at("error.log")])[0], 0)
-    server = subprocess.Popen(["whx12", "serve", "--book", house.book, "--listen", f"127.0.0.1:{behind}", "--count", "100"], env=house.environment,
+    server = subprocess.Popen(["whx12", "serve", "--book", house.book, "--listen", f"127.0.0.1:{behind}", "--from", "X-Depositor"], env=house.environment,
                               stdout=subprocess.DEVNULL)
     nginx = subprocess.Popen(["nginx", "-c", house.at("nginx.conf"), "-e", house.at("error.log"), "-g", "daemon off;"])
     try:
@@ -508,12 +531,29 @@ def sites(house):
                 raise Wrong("a slow post holds up another")
             same("a slow post", slow.communicate(timeout=30)[0], "200")
         same("the same again", house.run([*login, "--data-binary", "@" + house.at("second.x12"), f"{url}/x12"])[1], "200")
+        house.put(text_of(3), "third.x12")
+        strangers(house, curl, url)
     finally:
         nginx.send_signal(signal.SIGQUIT)
         nginx.wait(10)
         server.terminate()
         server.wait(10)
     same("the book in the end", house.whx12("stock", "ZZ-ACME", "--csv")[1].splitlines()[1].split(",")[-4:], ["100", "90", "0", "0"])
+
+
+def strangers(house, curl, url):
+    """Logins of another depositor and of none, with fields of their own, at what the first depositor has."""
+    for login in ("tearoom", "nobody"):
+        for fields in ([], ["-H", "X-Depositor: ZZ-ACME"], ["-H", "x-depositor: ZZ-ACME", "-H", "X_Depositor: ZZ-ACME"]):
+            asked = [*curl, "-u", f"{login}:secret", *fields]
+            for path in ("stock/ZZ-ACME", "outbox/ZZ-ACME", "outbox/ZZ-ACME/1", "outbox/ZZ-ACME/3"):
+                same(f"{login} at {path}", house.run([*asked, f"{url}/{path}"])[1], "403")
+            for text in ("second.x12", "third.x12"):
+                same(f"{login} posts {text}", house.run([*asked, "--data-binary", "@" + house.at(text), f"{url}/x12"])[1], "403")
+    same("its own", house.run([*curl, "-u", "tearoom:secret", f"{url}/stock/ZZ-TEAROOM"])[1], "404")
+    holm = [*curl, "-u", "holm:secret", "-H", "X-Depositor: ZZ-TEAROOM"]
+    for path, status in (("stock/ZZ-ACME", "200"), ("outbox/ZZ-ACME/1", "200"), ("outbox/ZZ-ACME/4", "404"), ("stock/ZZ-TEAROOM", "403")):
+        same(f"holm at {path}", house.run([*holm, f"{url}/{path}"])[1], status)
 
 
 def main(words):

@@ -11,6 +11,9 @@
 # another form, a DATE.unverified among them: look at why that isn't verified, and remove it yourself. (An older script named each copy DATE, verified
 # or not.) It never removes the copy that it has just made, whatever the clock says, and writes over none.
 #
+# Beside the copy its seal is written, as the file `seal`, and printed. The first entries of a copy must be those of the last one that has such a
+# file: where it lacks one, or has another, as where an older book was put in place, the exit status is 3, and the copy stays as DATE.unverified.
+#
 # Where it is stopped by a signal, or something fails, the server is started again, and what was copied stays as DATE.unverified. After a `kill -9`
 # nothing starts it: see ExecStopPost in whx12-backup.service. It starts a server too that didn't run before: stop its timer while you restore a book.
 set -eu
@@ -20,6 +23,7 @@ umask 077
 book=$1 folder=$2 service=${3-} keep=${4-30} stopped=
 date=$(date -u +%Y-%m-%dT%H%M%S)
 copy=$folder/$date.unverified
+form='[0-9][0-9][0-9][0-9]-[0-9][0-9]-[0-9][0-9]T[0-9][0-9][0-9][0-9][0-9][0-9]'
 
 fail() {
     printf 'backup.sh: %s\n' "$1" >&2
@@ -63,6 +67,17 @@ listen
 
 sync -f -- "$copy"
 whx12 verify --book "$copy/${book##*/}"
+last=
+for it in "$folder"/$form; do
+    if [ -f "$it/seal" ] && ! [ -L "$it" ]; then last=$it/seal; fi
+done
+if [ -n "$last" ]; then
+    noted=$(cat -- "$last")
+    now=$(whx12 seal --first "${noted%%:*}" --book "$copy/${book##*/}") || now=
+    if [ "$now" != "$noted" ]; then fail "the book lacks an entry that was sealed in $last, or has another"; fi
+fi
+whx12 seal --book "$copy/${book##*/}" >"$copy/seal"
+cat -- "$copy/seal"
 # The check can write: it moves what is in the log into the book.
 sync -f -- "$copy"
 mv -nT -- "$copy" "$folder/$date"
@@ -70,7 +85,6 @@ if [ -e "$copy" ]; then fail "$folder/$date is there already"; fi
 sync -- "$folder"
 
 # A folder is renamed before it is removed, so that one with the name of a verified copy is always whole.
-form='[0-9][0-9][0-9][0-9]-[0-9][0-9]-[0-9][0-9]T[0-9][0-9][0-9][0-9][0-9][0-9]'
 set --
 for it in "$folder"/$form; do
     if [ -d "$it" ] && ! [ -L "$it" ] && [ "$it" != "$folder/$date" ]; then set -- "$@" "$it"; fi

@@ -10,3 +10,4 @@ pub mod Answering
 pub mod Opened
 pub mod Outgoing
 pub mod Comparing
+pub mod Reopening

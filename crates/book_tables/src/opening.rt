@@ -2,9 +2,11 @@ ghost use Rattle.std.specs.Prelude.{◌≡◌, ◌≤◌, IfErr, IfOk, None};
 ghost use Rattle.sqlite.specs.Held.{state};
 ghost use Rattle.sqlite.specs.State.{HasCleanDisk, IsLive, Opens, Relays};
 ghost use Rattle.sqlite.specs.Steps.{FailsToOpen, IsFresh};
+ghost use Rattle.sqlite.specs.Tree.{Trees};
 ghost use Rattle.sqlite_disk.specs.Disk.{MoreFaults};
 ghost use Rattle.sqlite_trees.specs.View.{IsClean, IsQuiet, doubt};
 ghost use Rattle.book_tables.specs.Comparing.{AreTables, IsLaid};
+ghost use Rattle.book_tables.specs.Reopening.{FailsToReopen};
 
 use crate::connected::Tables;
 use sqlite::{Alter, Connection, Error, ErrorCode};
@@ -40,8 +42,9 @@ impl<S: Alter + Drop> Tables<S> {
     }
 
     /// The same tables, opened anew over their store, so that the rows of each are known to rise by
-    /// their rowids. An error hands the store back: `Closed` where it could not be rolled back, or
-    /// what `over` tells.
+    /// their rowids. An error hands the store back: `Closed` where it was shut or could not be
+    /// rolled back, or what `over` tells of what was committed. Either way a crash leaves no more
+    /// than before.
     pub fn reopened(self, alloc: Global) -> Result<Tables<S>, (Error, S)>
         ensures opens { IfOk result (λ t. HasCleanDisk (state S.Store t.conn)
             → Opens (state S.Store t.conn) × IsLive (state S.Store t.conn)) }
@@ -52,6 +55,14 @@ impl<S: Alter + Drop> Tables<S> {
         ensures clean { IfOk result (λ t. doubt (state S.Store self.conn).is_clean
             ≤ doubt (state S.Store t.conn).is_clean) }
         ensures fresh { IfOk result (λ t. (t.refused ≡ 0) × (t.made ≡ 0) × (t.limit ≡ None)) }
+        ensures no_more { IfOk result (λ t. HasCleanDisk (state S.Store t.conn) → (db : Trees)
+            → (state S.Store t.conn).may_leave db → (state S.Store self.conn).may_leave db) }
+        ensures unharmed { IfErr result (λ e. IsQuiet S.Store.view S.Store.faults S.Store.recovers
+            S.Store.is_shielded self.conn.store e.1) }
+        ensures told { IfErr result (λ e. Relays (S.Store.blamed e.1) e.0) }
+        ensures err { IfErr result (λ e. IsClean (S.Store.view e.1)
+            → FailsToReopen (state S.Store self.conn)
+            (MoreFaults (state S.Store self.conn).faults (S.Store.faults e.1)) e.0) }
     {
         let store = self.into_inner().into_store();
         if store.is_broken() {

@@ -28,7 +28,7 @@ both_versions : (version : Rules) (P : Type 0) → (version ≡ One → P) → (
 both_versions One P one two = one refl
 both_versions Two P one two = two refl
 
-not_both : One ≡ Two → ⊥
+pub not_both : One ≡ Two → ⊥
 not_both e = let f : ◌≡◌ {A = ℕ} 1 2 = ap rules_number e in absurd (cc)
 
 -- queries leave of a book of version 1 what a crash left before
@@ -37,7 +37,16 @@ left_carried old mid asked W L clean all db may = elim (asked.crash.crash clean 
 
 -- and of any tables no more than queries do
 pub queried : (old mid : State) → IsAsked old mid → OpensAs old mid
-queried old mid asked = record { clean = let crash = asked.crash in crash.clean; asked = λ none. asked }
+queried old mid asked = record { clean = let crash = asked.crash in crash.clean; asked = λ none. asked; asked_open = λ none. asked }
+
+-- what is of version 2 is brought up as it is
+pub second_as_it_is : {S : Type 0} (store : Ghosts S) (entries : ℕ) (tables : Kept S) → BringsUp {T = Unit {0}} store Two entries tables tables (Ok tt)
+second_as_it_is store entries tables = record {
+  stays = λ _. refl;
+  fails = tt;
+  done = λ _ e. absurd (not_both (sym e));
+  crash = λ e. absurd (not_both (sym e));
+}
 
 -- the book was found by queries, and then brought to version 2
 module _ {S T : Type 0} (store : Ghosts S) (version : Rules) (entries : ℕ) (old mid new : Kept S) (result : Result T Fault) (asked : IsAsked (state store old.conn) (state store mid.conn)) (brought : BringsUp store version entries mid new result) where
@@ -56,8 +65,8 @@ module _ {S T : Type 0} (store : Ghosts S) (version : Rules) (entries : ℕ) (ol
       (λ two. subst (λ (k : Kept S). HasCleanDisk (state store k.conn)) (brought.stays two) clean)
 
   -- what is asked of tables that don't name version 1
-  pub opens_as : (W : Who) → (HasCleanDisk between → (rows : List Row) × Finds house_text [] before.now rows × IsHouse version rows W) → OpensAs before after
-  opens_as W house = both_versions version (OpensAs before after)
+  pub opens_as : (W : Who) → (HasCleanDisk between → IsTrue before.is_open) → (HasCleanDisk between → (rows : List Row) × Finds house_text [] before.now rows × IsHouse version rows W) → OpensAs before after
+  opens_as W opened house = both_versions version (OpensAs before after)
       (λ one.
       let first : HasCleanDisk between → IsOfFirst before.now = λ clean. let it = house clean in (it.0, it.1, (W, subst (λ q. IsHouse q it.0 W) one it.2)) in
       let early = asked.crash in
@@ -68,10 +77,14 @@ module _ {S T : Type 0} (store : Ghosts S) (version : Rules) (entries : ℕ) (ol
           same = λ clean. absurd (none (first (clean_mid clean)));
           crash = survives_then before between after _ _ _ (λ clean db no. absurd (none (first (clean_mid clean)))) (λ clean db made. absurd (none (first (clean_mid clean)))) early later;
         };
+        asked_open = λ none. record {
+          same = λ clean. absurd (none (opened (clean_mid clean)) (first (clean_mid clean)));
+          crash = survives_then before between after _ _ _ (λ clean db no. absurd (none (opened (clean_mid clean)) (first (clean_mid clean)))) (λ clean db made. absurd (none (opened (clean_mid clean)) (first (clean_mid clean)))) early later;
+        };
       })
       (λ two.
       let early = asked.crash in
-      subst (λ (k : Kept S). OpensAs before (state store k.conn)) (sym (brought.stays two)) (record { clean = early.clean; asked = λ none. asked }))
+      subst (λ (k : Kept S). OpensAs before (state store k.conn)) (sym (brought.stays two)) (record { clean = early.clean; asked = λ none. asked; asked_open = λ none. asked }))
 
   -- where it answers Ok, it is usable for the register that stood there in either version
   pub opened_at : (q : Rules) (W : Who) (L : List Entry) (refused : ℕ) (house : Who) (u : T) → result ≡ Ok u → HasCleanDisk after → IsTrue before.is_open → IsLive before

@@ -1,6 +1,6 @@
 -- What opening leaves of tables: a book of version 1 is carried over to version 2, and others stay
 -- as they are.
-use Rattle.std.specs.Prelude.{◌≡◌, ◌≤◌, ℕ, List, Result, OnOk, OnErr, length}
+use Rattle.std.specs.Prelude.{◌≡◌, ◌≤◌, ℕ, List, Result, IsTrue, OnOk, OnErr, length}
 use Rattle.sqlite.specs.Tree.{Trees}
 use Rattle.sqlite.specs.Held.{state}
 use Rattle.sqlite.specs.Store.{Ghosts}
@@ -31,10 +31,12 @@ pub record BringsUp
       → Survives (state store old.conn) (state store new.conn) (λ db. (W : Who) (L : List Entry)
       → entries ≡ length L → StandsOpenAs One (state store old.conn) W L → StandsIn W L db)
 
--- opening makes no disk clean, and leaves tables as they were whose `book` doesn't name version 1
+-- opening makes no disk clean, and leaves tables as they were that are shut, or whose `book`
+-- doesn't name version 1
 pub record OpensAs (old new : State) : Type 0 where
   pub clean : doubt old.is_clean ≤ doubt new.is_clean
   pub asked : (IsOfFirst old.now → ⊥) → IsAsked old new
+  pub asked_open : (IsTrue old.is_open → IsOfFirst old.now → ⊥) → IsAsked old new
 
 -- a crash leaves nothing that doesn't stand for the register, as a book of the version
 abbrev pub AllStandAs : Rules → State → Who → List Entry → Type 0

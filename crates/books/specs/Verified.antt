@@ -17,6 +17,7 @@ use Rattle.profile.specs.Accepted.{IsLegal}
 use Rattle.store.specs.Standing.{Standing, IsUsable, OfAnyKept}
 use Rattle.store.specs.Fault.{Fault}
 use Rattle.store.specs.Fault.TheVariants.{OutOfMemory, Store}
+use Rattle.book_statements.specs.Asking.{IsAsked}
 use Rattle.book_statements.specs.Exits.{StandsWhileOpen}
 use Rattle.book_statements.specs.Standing.{StandsSecond}
 use Rattle.book_tables.specs.Comparing.{AreTables, IsLaid}
@@ -86,3 +87,11 @@ StandsChecked store old new result = OfTables store old new
 abbrev pub CountsKept : {S : Type 0} → Ghosts S → Opened S → Opened S → Result ℕ Fault → Type 0
 CountsKept store old new result =
     OfAnyKept (standing_of store old) (standing_of store new) (λ L. IfOk result (λ n. n ≡ length L))
+
+-- What a check leaves of a book, whatever its tables hold: they show what they showed, the same is
+-- committed, and a crash leaves no more than before.
+pub record IsOnlyRead {S : Type 0} (store : Ghosts S) (old new : Opened S) : Type 0 where
+  pub tables : IsAsked (state store old.tables.conn) (state store new.tables.conn)
+  pub warehouse : new.warehouse ≡ old.warehouse
+  pub entries : new.entries ≡ old.entries
+  pub shut : new.shut ≡ old.shut

@@ -1,12 +1,15 @@
-ghost use Rattle.std.specs.Prelude.{◌≡◌, ◌≢◌, ◌<◌, ◌^◌, ◌-◌, [], true, false, IfErr, IfOk, OnOk, OnErr, IsErrAnd, Some};
+ghost use Rattle.std.specs.Prelude.{◌≡◌, ◌≢◌, ◌<◌, ◌^◌, ◌-◌, [], true, false, IfErr, IfOk, OnOk, OnErr, IsErrAnd, List, Some};
 ghost use Rattle.profile.specs.declared.rules.Rules.TheVariants.{One, Two};
+ghost use Rattle.profile.specs.Header.{Who as Partner};
+ghost use Rattle.profile.specs.Register as register;
 ghost use Rattle.sqlite.specs.State.{HasCleanDisk, Survives};
 ghost use Rattle.sqlite.specs.Held.{state};
 ghost use Rattle.store.specs.Standing.{IsUsable, IsReading, IsQuery};
-ghost use Rattle.book_statements.specs.Exits.{IsAsBefore};
+ghost use Rattle.book_statements.specs.Asking.{IsAsked};
+ghost use Rattle.book_statements.specs.Exits.{IsAsBefore, StandsWhileOpen};
 ghost use Rattle.book_statements.specs.Faults.{IsCallFault, IsOpeningFault};
 ghost use Rattle.books.specs.Carrying.{BringsUp};
-ghost use Rattle.books.specs.Verified.{CountsKept, IsAlwaysClean, StandsChecked};
+ghost use Rattle.books.specs.Verified.{CountsKept, IsAlwaysClean, IsOnlyRead, StandsChecked};
 ghost use Rattle.book_statements.specs.Limits.{Counts};
 ghost use Rattle.book_statements.specs.Layout.{no_layout};
 ghost use Rattle.books.specs.Opened.{standing_of};
@@ -167,15 +170,49 @@ impl<S: Alter + Drop> Book<S> {
         })
     }
 
+    /// Opens the book of version 2 that tables hold, which are only read, whatever they hold. A
+    /// fault hands them back as they were: 40 or 41 where a call was refused, 43 where they are no
+    /// book of version 2.
+    pub fn open_second(alloc: Global, mut tables: Tables<S>) -> Result<Book<S>, (Fault, Tables<S>)>
+        ensures ok { IfOk result (IsOpened S.Store tables) }
+        ensures asked { IfOk result
+            (λ b. IsAsked (state S.Store tables.conn) (state S.Store b.tables.conn)) }
+        ensures left { IfErr result
+            (λ e. IsAsked (state S.Store tables.conn) (state S.Store e.1.conn)) }
+        ensures this { IfErr result (λ e. HasCleanDisk (state S.Store e.1.conn) → (W : Partner)
+            (L : List register.Entry) → StandsWhileOpen (state S.Store tables.conn) W L
+            → e.0 ≢ Fault.NotThisBook) }
+        ensures named { IfErr result (λ e. IsOpeningFault e.0) }
+    {
+        // For the prover alone: what the tables show is what was committed last.
+        tables.settle();
+        let (named, entries) = match tables.found() {
+            Ok(found) => found,
+            Err(fault) => return Err((fault, tables)),
+        };
+        let (version, warehouse) = named;
+        match version {
+            Rules::One => Err((Fault::NotThisBook, tables)),
+            Rules::Two => Ok(Book {
+                alloc,
+                tables,
+                warehouse,
+                entries,
+                shut: false,
+            }),
+        }
+    }
+
     /// How many entries the register has, where every table is what comes of giving their commands
     /// again, one after another, to an empty book in memory; 43 where one of them isn't. Nothing is
-    /// written. 40 and 41 are those of a query, 42 that of a book that has to be opened again. It
-    /// holds a second book in memory for as long as it runs.
+    /// written, whatever the tables hold. 40 and 41 are those of a query, 42 that of a book that
+    /// has to be opened again. It holds a second book in memory for as long as it runs.
     pub fn verify(&mut self) -> Result<u64, Fault>
         ensures stands { StandsChecked S.Store self.old self.new result }
         ensures whole { CountsKept S.Store self.old self.new result }
         ensures query { IsQuery (standing_of S.Store self.old) (standing_of S.Store self.new)
             result }
+        ensures unchanged { IsOnlyRead S.Store self.old self.new }
         ensures limit { Counts self.old.tables self.new.tables }
     {
         self.verify_telling(|_, _| {})
@@ -190,6 +227,7 @@ impl<S: Alter + Drop> Book<S> {
         ensures whole { CountsKept S.Store self.old self.new result }
         ensures query { IsQuery (standing_of S.Store self.old) (standing_of S.Store self.new)
             result }
+        ensures unchanged { IsOnlyRead S.Store self.old self.new }
         ensures limit { Counts self.old.tables self.new.tables }
     {
         if self.shut {
@@ -215,6 +253,7 @@ impl<S: Alter + Drop> Book<S> {
         ensures whole { CountsKept S.Store self.old self.new result }
         ensures reading { IsReading (standing_of S.Store self.old) (standing_of S.Store self.new)
             result }
+        ensures unchanged { IsOnlyRead S.Store self.old self.new }
         ensures limit { Counts self.old.tables self.new.tables }
     {
         let all = give_all(self.alloc, &mut self.tables, copy, self.entries, told)?;

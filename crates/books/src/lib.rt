@@ -4,6 +4,7 @@
 mod blank;
 mod book;
 mod keeping;
+mod sealing;
 mod verifying;
 
 pub use blank::is_blank;

@@ -96,6 +96,7 @@ part_has f (task.Init who) s = absurd s
 part_has f (task.Batch file) s = absurd s
 part_has f (task.Serve service at) s = absurd s
 part_has f task.Verify s = absurd s
+part_has f (task.Seal first) s = absurd s
 
 pub task_has : (f : Found) (t : Task) → SaysTask f t → HasAll f
 task_has f (task.Init who) s = named f.1 s.0 ((λ _. (who.now, s.1)), (may, tt))
@@ -104,9 +105,9 @@ task_has f (task.Show a) s = show_has f a s
 task_has f (task.Batch file) s = named f.1 s.0 ((λ _. (file.now, s.1)), tt)
 task_has f (task.Serve service at) s =
     let listen = s.1.0.0 in
-    let count = s.1.1 in
-    named f.1 s.0 ((λ _. (listen.0, listen.1)), ((λ _. (count.0, count.1)), (may, (may, (may, (may, (may, (may, tt))))))))
+    named f.1 s.0 ((λ _. (listen.0, listen.1)), (may, (may, (may, (may, (may, (may, (may, (may, tt)))))))))
 task_has f task.Verify s = named f.1 s (may, tt)
+task_has f (task.Seal first) s = named f.1 s.0 (may, (may, tt))
 
 -- the name of what is asked for
 clerk_name : {A : Type 0} {w b : Text} (k : SheetKind) → w ≡ act_name k → w ≡ b → bytes_eq (codes "count") b ≡ false
@@ -149,6 +150,7 @@ part_number f (task.Init who) s is = absurd s
 part_number f (task.Batch file) s is = absurd s
 part_number f (task.Serve service at) s is = absurd s
 part_number f task.Verify s is = absurd s
+part_number f (task.Seal first) s is = absurd s
 
 pub task_service : (f : Found) (t : Task) → SaysTask f t → f.0 ≡ codes "serve" → (service : Service) × SaysService f.1 service
 task_service f (task.Init who) s is = elsewhere s.0 is refl
@@ -157,6 +159,7 @@ task_service f (task.Show a) s is = no_show f is refl refl refl refl refl a s
 task_service f (task.Batch file) s is = elsewhere s.0 is refl
 task_service f (task.Serve service at) s is = (service, s.1)
 task_service f task.Verify s is = elsewhere s is refl
+task_service f (task.Seal first) s is = elsewhere s.0 is refl
 
 pub no_script : (f : Found) (t : Task) → SaysTask f t → f.0 ≡ codes "script" → ⊥
 no_script f (task.Init who) s is = elsewhere s.0 is refl
@@ -165,16 +168,18 @@ no_script f (task.Show a) s is = no_show f is refl refl refl refl refl a s
 no_script f (task.Batch file) s is = elsewhere s.0 is refl
 no_script f (task.Serve service at) s is = elsewhere s.0 is refl
 no_script f task.Verify s is = elsewhere s is refl
+no_script f (task.Seal first) s is = elsewhere s.0 is refl
 
 -- what the program has for itself has a name of its own
 pub part_of : (f : Found) (t : Task) → SaysTask f t → (f.0 ≡ codes "init" → ⊥) → (f.0 ≡ codes "serve" → ⊥) → (f.0 ≡ codes "verify" → ⊥)
-    → (f.0 ≡ codes "batch" → ⊥) → SaysPart f t
-part_of f (task.Init who) s i e v b = absurd (i s.0)
-part_of f (task.Act a at) s i e v b = s.0
-part_of f (task.Show a) s i e v b = s
-part_of f (task.Batch file) s i e v b = absurd (b s.0)
-part_of f (task.Serve service at) s i e v b = absurd (e s.0)
-part_of f task.Verify s i e v b = absurd (v s)
+    → (f.0 ≡ codes "seal" → ⊥) → (f.0 ≡ codes "batch" → ⊥) → SaysPart f t
+part_of f (task.Init who) s i e v l b = absurd (i s.0)
+part_of f (task.Act a at) s i e v l b = s.0
+part_of f (task.Show a) s i e v l b = s
+part_of f (task.Batch file) s i e v l b = absurd (b s.0)
+part_of f (task.Serve service at) s i e v l b = absurd (e s.0)
+part_of f task.Verify s i e v l b = absurd (v s)
+part_of f (task.Seal first) s i e v l b = absurd (l s.0)
 
 -- and no server is asked for it
 no_server : {A : Type 0} {w : Text} (name : Text) → takes_server w ≡ true → takes_server name ≡ false → w ≡ name → A
@@ -182,4 +187,4 @@ no_server name takes other is = absurd (let d : true ≡ false = sym (subst (λ 
 
 pub server_part : (f : Found) (t : Task) → SaysTask f t → takes_server f.0 ≡ true → SaysPart f t
 server_part f t s takes = part_of f t s (no_server (codes "init") takes refl) (no_server (codes "serve") takes refl)
-    (no_server (codes "verify") takes refl) (no_server (codes "batch") takes refl)
+    (no_server (codes "verify") takes refl) (no_server (codes "seal") takes refl) (no_server (codes "batch") takes refl)

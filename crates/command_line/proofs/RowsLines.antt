@@ -38,17 +38,20 @@ of_the_program =
     ∷ codes "--server" ∷ codes "127.0.0.1:8080" ∷ [])
     ∷ (codes "serve" ∷ codes "--listen" ∷ codes "127.0.0.1:8080" ∷ codes "--count" ∷ codes "7"
     ∷ codes "--book" ∷ codes "harbor.book" ∷ codes "--clerks" ∷ codes "--host" ∷ codes "dock.example" ∷ [])
+    ∷ (codes "serve" ∷ codes "--listen" ∷ codes "127.0.0.1:8080" ∷ codes "--book"
+    ∷ codes "harbor.book" ∷ codes "--from" ∷ codes "X-Depositor" ∷ [])
     ∷ (codes "batch" ∷ codes "day.txt" ∷ codes "--book" ∷ codes "harbor.book" ∷ [])
     ∷ (codes "verify" ∷ codes "--book" ∷ codes "harbor.book" ∷ [])
-    ∷ (codes "verify" ∷ codes "--wary" ∷ codes "--book" ∷ codes "harbor.book" ∷ []) ∷ []
+    ∷ (codes "verify" ∷ codes "--wary" ∷ codes "--book" ∷ codes "harbor.book" ∷ [])
+    ∷ (codes "seal" ∷ codes "--first" ∷ codes "46" ∷ codes "--book" ∷ codes "harbor.book" ∷ [])
+    ∷ (codes "seal" ∷ codes "--book" ∷ codes "harbor.book" ∷ []) ∷ []
 
 abbrev not_of_the_program : List (List Text)
 not_of_the_program =
     (codes "init" ∷ codes "ZZ-WHSE1" ∷ [])
     ∷ (codes "enrol" ∷ codes "ZZ-ACME" ∷ codes "--server" ∷ codes "127.0.0.1:8080" ∷ [])
     ∷ (codes "script" ∷ codes "day.txt" ∷ codes "--book" ∷ codes "harbor.book" ∷ [])
-    ∷ (codes "serve" ∷ codes "--listen" ∷ codes "127.0.0.1:8080" ∷ codes "--book"
-    ∷ codes "harbor.book" ∷ [])
+    ∷ (codes "serve" ∷ codes "--count" ∷ codes "7" ∷ codes "--book" ∷ codes "harbor.book" ∷ [])
     ∷ (codes "verify" ∷ codes "--book" ∷ [])
     ∷ (codes "script" ∷ codes "day.txt" ∷ codes "--wary" ∷ []) ∷ []
 

@@ -102,10 +102,6 @@ SaysShow f show.Depositors = f.0 ≡ codes "depositors"
 abbrev pub SaysAddress : List Row → Text → SocketAddr → Type 0
 SaysAddress rows id address = (text : Text) × Has rows id text × IsSocketText text address
 
--- how many connections the line says
-abbrev pub SaysCount : List Row → ℕ → Type 0
-SaysCount rows count = (text : Text) × Has rows (codes "count") text × (count_of text ≡ Some count)
-
 -- this machine alone reaches the address
 abbrev pub IsLoopback : SocketAddr → Type 0
 IsLoopback address = MatchIp (socket_ip address) IsLoopbackV4 IsLoopbackV6
@@ -117,15 +113,16 @@ MayListen rows address = IsLoopback address ⊎ IsTrue (has_flag rows (codes "an
 abbrev pub IsGuarded : List Row → SocketAddr → Type 0
 IsGuarded rows address = SaysAddress rows (codes "listen") address × MayListen rows address
 
--- these are the names by which the line says that the server may be called, or it says none
-abbrev pub SaysHosts : List Row → Option (Bor Text) → Type 0
-SaysHosts rows hosts = first_of (codes "host") rows ≡ option_map (λ b. b.now) hosts
+-- the line says this as this option, or it doesn't have it
+abbrev pub SaysText : List Row → Text → Option (Bor Text) → Type 0
+SaysText rows id text = first_of id rows ≡ option_map (λ b. b.now) text
 
 abbrev pub SaysService : List Row → Service → Type 0
 SaysService rows s = IsGuarded rows s.address
-    × SaysCount rows s.count × SaysFew rows (codes "patience") s.patience
+    × SaysFew rows (codes "count") s.count × SaysFew rows (codes "patience") s.patience
     × SaysFew rows (codes "peers") s.peers
-    × (s.clerks ≡ has_flag rows (codes "clerks")) × SaysHosts rows s.hosts
+    × (s.clerks ≡ has_flag rows (codes "clerks"))
+    × SaysText rows (codes "host") s.hosts × SaysText rows (codes "from") s.from
 
 abbrev pub SaysTask : Found → Task → Type 0
 SaysTask f (task.Init who) = (f.0 ≡ codes "init") × Has f.1 (codes "who") who.now
@@ -134,6 +131,7 @@ SaysTask f (task.Show s) = SaysShow f s
 SaysTask f (task.Batch file) = (f.0 ≡ codes "batch") × Has f.1 (codes "file") file.now
 SaysTask f (task.Serve s at) = (f.0 ≡ codes "serve") × SaysService f.1 s × SaysMoment f.1 at
 SaysTask f task.Verify = f.0 ≡ codes "verify"
+SaysTask f (task.Seal first) = (f.0 ≡ codes "seal") × SaysText f.1 (codes "first") first
 
 -- what it says of a moment, if anything, can be read
 abbrev pub ReadsMoment : List Row → Type 0
@@ -141,7 +139,7 @@ ReadsMoment rows = (at : Option Moment) × SaysMoment rows at
 
 -- the line names this file with a book, or none
 abbrev pub SaysBook : List Row → Option (Bor Text) → Type 0
-SaysBook rows book = first_of (codes "book") rows ≡ option_map (λ b. b.now) book
+SaysBook rows book = SaysText rows (codes "book") book
 
 -- how long the line says that a book in use is waited for, or it says nothing of it
 abbrev pub SaysWait : List Row → Option ℕ → Type 0

@@ -92,12 +92,16 @@ abbrev pub depositors_shape : Shape
 depositors_shape = subcommand (codes "depositors") (at_rule ∷ [])
 
 abbrev pub serve_shape : Shape
-serve_shape = subcommand (codes "serve") (wanted_rule (codes "listen") ∷ wanted_rule (codes "count")
+serve_shape = subcommand (codes "serve") (wanted_rule (codes "listen") ∷ option_rule (codes "count")
     ∷ option_rule (codes "patience") ∷ option_rule (codes "peers") ∷ option_rule (codes "host")
+    ∷ option_rule (codes "from")
     ∷ flag_rule (codes "anyone") ∷ flag_rule (codes "clerks") ∷ at_rule ∷ [])
 
 abbrev pub verify_shape : Shape
 verify_shape = subcommand (codes "verify") (at_rule ∷ [])
+
+abbrev pub seal_shape : Shape
+seal_shape = subcommand (codes "seal") (option_rule (codes "first") ∷ at_rule ∷ [])
 
 -- with an argument more
 abbrev pub and_rule : Shape → Rule → Shape
@@ -162,7 +166,8 @@ script_subcommands = line_subcommands place.Script
 -- the program has those of a script, over the book in a file or a server's, and four of its own
 abbrev pub program_subcommands : List Shape
 program_subcommands = script_shape ∷ line_subcommands place.Program
-    ++ over_book batch_shape ∷ over_book serve_shape ∷ over_book verify_shape ∷ []
+    ++ over_book batch_shape ∷ over_book serve_shape ∷ over_book verify_shape
+    ∷ over_book seal_shape ∷ []
 
 -- the subcommands that may stand at a place
 abbrev pub subcommands_at : Place → List Shape
@@ -175,4 +180,4 @@ app_at p = record { top = top_shape; subs = subcommands_at p }
 -- the arguments of a subcommand, but for those of every subcommand over a book
 abbrev pub rules_of : Text → List Rule
 rules_of name = option_map_or (λ s. s.rules) (find (λ s. bytes_eq s.name name)
-    (script_shape ∷ batch_shape ∷ serve_shape ∷ verify_shape ∷ script_subcommands)) []
+    (script_shape ∷ batch_shape ∷ serve_shape ∷ verify_shape ∷ seal_shape ∷ script_subcommands)) []

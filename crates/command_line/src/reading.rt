@@ -7,7 +7,8 @@ ghost use Rattle.command_line.specs.Asked as meant;
 
 use crate::subcommands::parser;
 use crate::values::{
-    book_of, given, has_flag, leaves_to_server, moment, number, opening, server, service_of, usage,
+    book_of, given, has_flag, leaves_to_server, moment, number, opening, server, service_of,
+    text_of, usage,
 };
 use crate::words::{BookAct, ClerkWords, LineFault, Place, Show, Task, Words};
 use clap::ArgMatches;
@@ -198,6 +199,9 @@ fn task_at<'a>(
             at,
         },
         "verify" => Task::Verify,
+        "seal" => Task::Seal {
+            first: text_of(values, "first"),
+        },
         "batch" => Task::Batch {
             file: given(alloc, values, "file")?,
         },

@@ -166,28 +166,19 @@ fn recount<'a>(alloc: Global) -> Result<Command<'a>, AllocError>
 // The subcommand `serve` as far as its words must be there.
 fn serve_wanted<'a>(alloc: Global) -> Result<Command<'a>, AllocError>
     ensures { IfOk result (IsCommand (meant.subcommand (codes "serve")
-        (meant.wanted_rule (codes "listen") ∷ meant.wanted_rule (codes "count") ∷ []))) }
+        (meant.wanted_rule (codes "listen") ∷ []))) }
 {
-    let command = subcommand(
+    subcommand(
         alloc,
         "serve",
         "Serves the book over HTTP: many connections at once, their requests one after the other",
-        "whx12 serve --listen ADDR --count N [--patience SECONDS] [--peers N] [--host NAMES] [--anyone] [--clerks] --book BOOK [--at MOMENT]",
-        "Example: whx12 serve --book harbor.book --listen 127.0.0.1:8080 --count 1000\n\nA depositor posts its interchanges to /x12. GET /stock/ZZ-ACME shows stock, /outbox/ZZ-ACME what went out. Printed is the\nstatus of each response, or: fault 44 Device. While it serves, no other command can open the book; where it\nhas --clerks, those with --server ask it instead.",
+        "whx12 serve --listen ADDR [--count N] [--patience SECONDS] [--peers N] [--host NAMES] [--from FIELD] [--anyone] [--clerks] --book BOOK [--at MOMENT]",
+        "Example: whx12 serve --book harbor.book --listen 127.0.0.1:8080\n\nA depositor posts its interchanges to /x12. GET /stock/ZZ-ACME shows stock, /outbox/ZZ-ACME what went out. Printed is the\nstatus of each response, or: fault 44 Device. While it serves, no other command can open the book; where it\nhas --clerks, those with --server ask it instead.",
         wanted(
             alloc,
             "listen",
             "ADDR",
             "The IP address and port to listen at, as 127.0.0.1:8080",
-        ),
-    );
-    with(
-        command,
-        wanted(
-            alloc,
-            "count",
-            "N",
-            "How many connections are served, from 1 to 65535",
         ),
     )
 }
@@ -196,6 +187,15 @@ fn serve<'a>(alloc: Global) -> Result<Command<'a>, AllocError>
     ensures { IfOk result (IsCommand meant.serve_shape) }
 {
     let command = serve_wanted(alloc);
+    let command = with(
+        command,
+        option(
+            alloc,
+            "count",
+            "N",
+            "How many connections are served, from 1 to 65535 [default: until it is stopped]",
+        ),
+    );
     let command = with(
         command,
         option(
@@ -221,6 +221,15 @@ fn serve<'a>(alloc: Global) -> Result<Command<'a>, AllocError>
             "host",
             "NAMES",
             "The names by which it is asked beside localhost and its address, with commas between them",
+        ),
+    );
+    let command = with(
+        command,
+        option(
+            alloc,
+            "from",
+            "FIELD",
+            "The field in which what stands in front says for which depositor it asks, as X-Depositor",
         ),
     );
     let command = with(
@@ -253,6 +262,25 @@ fn verify<'a>(alloc: Global) -> Result<Command<'a>, AllocError>
         "Example: whx12 verify --book harbor.book\n\nThe command of each entry is given again to an empty book in memory, and every table is compared with that book's. Printed\nis: ok and the number of entries; a difference is: fault 43 NotThisBook. Nothing is written. Run it after a restore, before a\nyear is closed, and after a fault of the disk.",
         at(alloc),
     )
+}
+
+fn seal<'a>(alloc: Global) -> Result<Command<'a>, AllocError>
+    ensures { IfOk result (IsCommand meant.seal_shape) }
+{
+    let command = subcommand(
+        alloc,
+        "seal",
+        "Tells the seal of the book: how many entries it has, and a digest over all of them",
+        "whx12 seal [--first N] --book BOOK",
+        "Example: whx12 seal --book harbor.book\nExample: whx12 seal --first 46 --book harbor.book\n\nPrinted is N:DIGITS, a SHA-256 over the N entries. Note it elsewhere, as beside a backup: as long as seal --first N prints the\nsame, the book has these entries, unchanged; status 1 says that it has fewer. Nothing is written.",
+        option(
+            alloc,
+            "first",
+            "N",
+            "Of the first N entries, 0 to 999999999 [default: of all]",
+        ),
+    );
+    with_at(alloc, command)
 }
 
 // With the subcommands that change the book.
@@ -296,7 +324,7 @@ fn top<'a>(alloc: Global) -> Command<'a>
         "whx12",
         "The book of a third-party warehouse that takes its orders as X12 interchanges",
         "whx12 COMMAND ..",
-        "The book:      init, enrol, roster, verify\nInterchanges:  send, take, serve\nClerks:        orders, count, pick, recount\nLooking:       stock, open, outbox, depositors\nMany at once:  batch\nTrying out:    script\n\nExample: whx12 init ZZ-WHSE1 --book harbor.book\nExample: whx12 enrol ZZ-ACME --book harbor.book\nExample: whx12 send advice.x12 --book harbor.book\nExample: whx12 script morning.txt\n\n`whx12 help COMMAND` says what a command wants. The exit status is 0 where all was done, 1 where something was refused, 2 where words can't be read, 3 at a fault.\n\nWhat a refusal or a fault is about is told in a line of its own on a terminal, and elsewhere where one of the words is --explain.",
+        "The book:      init, enrol, roster, verify, seal\nInterchanges:  send, take, serve\nClerks:        orders, count, pick, recount\nLooking:       stock, open, outbox, depositors\nMany at once:  batch\nTrying out:    script\n\nExample: whx12 init ZZ-WHSE1 --book harbor.book\nExample: whx12 enrol ZZ-ACME --book harbor.book\nExample: whx12 send advice.x12 --book harbor.book\nExample: whx12 script morning.txt\n\n`whx12 help COMMAND` says what a command wants. The exit status is 0 where all was done, 1 where something was refused, 2 where words can't be read, 3 at a fault.\n\nWhat a refusal or a fault is about is told in a line of its own on a terminal, and elsewhere where one of the words is --explain.",
     )
     .no_binary_name(true)
     .subcommand_required(true)
@@ -313,7 +341,8 @@ fn of_programs<'a>(alloc: Global) -> Result<Command<'a>, AllocError>
     let parser = with_lines(alloc, Place::Program, parser);
     let parser = join_at(alloc, Place::Program, parser, batch(alloc));
     let parser = join_at(alloc, Place::Program, parser, serve(alloc));
-    join_at(alloc, Place::Program, parser, verify(alloc))
+    let parser = join_at(alloc, Place::Program, parser, verify(alloc));
+    join_at(alloc, Place::Program, parser, seal(alloc))
 }
 
 // The words that may stand in a script.

@@ -89,17 +89,6 @@ fn address(alloc: Global, values: &ArgMatches<'_>) -> Result<SocketAddr, LineFau
     )
 }
 
-// How many connections a line says.
-fn connections(alloc: Global, values: &ArgMatches<'_>) -> Result<u16, LineFault>
-    ensures { meant.Reads (meant.SaysCount (rows_of (found_of values.now))) result }
-{
-    let text = given(alloc, values, "count")?;
-    match count_of(text.as_bytes()) {
-        Some(count) => Ok(count),
-        None => Err(usage(alloc, "--count wants a number from 1 to 65535\n")),
-    }
-}
-
 // The number from 1 to 65535 that a line says as this option, if it says it; the fault where it is
 // none.
 fn few(
@@ -119,30 +108,6 @@ fn few(
     }
 }
 
-// How many seconds a line says that a request is waited for, if it says it.
-fn patience(alloc: Global, values: &ArgMatches<'_>) -> Result<Option<u16>, LineFault>
-    ensures { meant.Reads (meant.SaysFew (rows_of (found_of values.now)) (codes "patience")) result }
-{
-    few(
-        alloc,
-        values,
-        "patience",
-        "--patience wants a number of seconds from 1 to 65535\n",
-    )
-}
-
-// How many connections a line says that are there at once, if it says it.
-fn peers(alloc: Global, values: &ArgMatches<'_>) -> Result<Option<u16>, LineFault>
-    ensures { meant.Reads (meant.SaysFew (rows_of (found_of values.now)) (codes "peers")) result }
-{
-    few(
-        alloc,
-        values,
-        "peers",
-        "--peers wants a number of connections from 1 to 65535\n",
-    )
-}
-
 // The address that a line says, if it may be listened at: other machines know a depositor by its
 // ISA alone, so one that they reach wants a word more.
 fn guarded_address(alloc: Global, values: &ArgMatches<'_>) -> Result<SocketAddr, LineFault>
@@ -158,11 +123,11 @@ fn guarded_address(alloc: Global, values: &ArgMatches<'_>) -> Result<SocketAddr,
     ))
 }
 
-// The names by which a request may call the server, if a line says any.
-fn hosts_of<'a>(values: &ArgMatches<'a>) -> Option<&'a str>
-    ensures { meant.SaysHosts (rows_of (found_of values.now)) result }
+/// What a line says as this option, if it has it.
+pub(crate) fn text_of<'a>(values: &ArgMatches<'a>, id: &str) -> Option<&'a str>
+    ensures { meant.SaysText (rows_of (found_of values.now)) id.now result }
 {
-    values.get_str("host")
+    values.get_str(id)
 }
 
 /// Where a line says that a book is served, and for how long.
@@ -174,11 +139,27 @@ pub(crate) fn service_of<'a>(
 {
     Ok(Service {
         address: guarded_address(alloc, values)?,
-        count: connections(alloc, values)?,
-        patience: patience(alloc, values)?,
-        peers: peers(alloc, values)?,
+        count: few(
+            alloc,
+            values,
+            "count",
+            "--count wants a number from 1 to 65535\n",
+        )?,
+        patience: few(
+            alloc,
+            values,
+            "patience",
+            "--patience wants a number of seconds from 1 to 65535\n",
+        )?,
+        peers: few(
+            alloc,
+            values,
+            "peers",
+            "--peers wants a number of connections from 1 to 65535\n",
+        )?,
         clerks: has_flag(values, "clerks"),
-        hosts: hosts_of(values),
+        hosts: text_of(values, "host"),
+        from: text_of(values, "from"),
     })
 }
 

@@ -82,6 +82,11 @@ pub enum Task<'a> {
     },
     /// Compare every table of the book with what its register gives.
     Verify,
+    /// Tell the seal of the book.
+    Seal {
+        /// Of how many entries, the first ones, if the line says it.
+        first: Option<&'a str>,
+    },
 }
 
 /// Where a book is served, and for how long.
@@ -89,8 +94,8 @@ pub enum Task<'a> {
 pub struct Service<'a> {
     /// The IP address and port to listen at.
     pub address: SocketAddr,
-    /// How many connections are served, 1 to 65535.
-    pub count: u16,
+    /// How many connections are served, 1 to 65535, if the line says it.
+    pub count: Option<u16>,
     /// How many seconds a request is waited for, and again its response, 1 to 65535, if the line
     /// says it.
     pub patience: Option<u16>,
@@ -101,6 +106,8 @@ pub struct Service<'a> {
     /// The names by which a request may call the server, with a comma between any two, if the line
     /// says any.
     pub hosts: Option<&'a str>,
+    /// The field by which what stands in front says for whom it asks, if the line names one.
+    pub from: Option<&'a str>,
 }
 
 /// What changes a book.

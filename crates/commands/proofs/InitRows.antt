@@ -46,6 +46,7 @@ named_so f (words.Over book opening (task.Show a)) name i s = absurd i
 named_so f (words.Over book opening (task.Batch file)) name i s = absurd i
 named_so f (words.Over book opening (task.Serve a at)) name i s = absurd i
 named_so f (words.Over book opening task.Verify) name i s = absurd i
+named_so f (words.Over book opening (task.Seal first)) name i s = absurd i
 named_so f (words.Script file) name i s = absurd i
 named_so f (words.Remote server t) name i s = absurd i
 
@@ -59,6 +60,7 @@ alone f (words.Over book opening (task.Show a)) s is none = clash f is (show_not
 alone f (words.Over book opening (task.Batch file)) s is none = clash f is (ap is_init s.5.0)
 alone f (words.Over book opening (task.Serve a at)) s is none = clash f is (ap is_init s.5.0)
 alone f (words.Over book opening task.Verify) s is none = clash f is (ap is_init s.5)
+alone f (words.Over book opening (task.Seal first)) s is none = clash f is (ap is_init s.5.0)
 alone f (words.Script file) s is none = clash f is (ap is_init s.0)
 alone f (words.Remote server t) s is none = true≢false (sym s.2 ∙ ap takes_server is)
 
@@ -81,3 +83,4 @@ no_init book opening (task.Show a) not name i = i
 no_init book opening (task.Batch file) not name i = i
 no_init book opening (task.Serve a at) not name i = i
 no_init book opening task.Verify not name i = i
+no_init book opening (task.Seal first) not name i = i

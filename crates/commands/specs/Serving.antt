@@ -1,5 +1,5 @@
 -- Whose requests a server takes, and when its connections come.
-use Rattle.std.specs.Prelude.{◌≡◌, ◌≤◌, ℕ, Bool, true, false, List, Option, Some, All, length, map, unwrap_or}
+use Rattle.std.specs.Prelude.{◌≡◌, ◌≤◌, ℕ, Bool, true, false, List, Option, Some, None, All, length, map, unwrap_or}
 use Rattle.std.specs.List.{FoldsTo}
 use Rattle.profile.specs.Moments.{Moment}
 use Rattle.store.specs.Standing.{Standing}
@@ -17,8 +17,16 @@ audience_of false = Partners
 
 -- whom a service answers: there are always doors, which know it by these names beside its address
 abbrev pub access_of : Service → Access
-access_of service =
-    record { audience = audience_of service.clerks; doors = Some (record { names = service.hosts }) }
+access_of service = record {
+  audience = audience_of service.clerks;
+  doors = Some (record { names = service.hosts });
+  from = service.from;
+}
+
+-- how many connections are served: more than any server lives to serve, where nobody says
+abbrev pub count_of : Option ℕ → ℕ
+count_of None = 18446744073709551615
+count_of (Some count) = count
 
 -- The next moment, and the last good one then. Where no clock is asked it is the same again; else
 -- the clock is asked once, and where it gives none, it is the last good one.

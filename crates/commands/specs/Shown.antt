@@ -11,6 +11,8 @@ use Rattle.profile.specs.Rows.{StockRow, OutRow, stock_of, outbox_of}
 use Rattle.reports.specs.Exports.{stock_text}
 use Rattle.reports.specs.Open.{depositor_list, open_report}
 use Rattle.store.specs.Open.{OpenWork, enrolled, open_of}
+use Rattle.seals.specs.Noted.{noted_line, noted_of}
+use Rattle.seals.specs.Seals.{seal_of_first}
 use Rattle.store.specs.Sent.{text_of}
 use Rattle.store.specs.Standing.{Standing, IsQueryFault, IsUnchanged, OfKept}
 use Rattle.commands.specs.Printing.{AppendsFront}
@@ -55,6 +57,16 @@ shown_sheet (Err why) = ([], Refused)
 abbrev pub shown_order : List ℕ → Option History → Shown
 shown_order number None = ([], Refused)
 shown_order number (Some h) = shown_sheet (pick_list h.events number)
+
+-- the seal of so many entries, if there are so many
+abbrev pub shown_first : ℕ → Option (List ℕ) → Shown
+shown_first n None = ([], Refused)
+shown_first n (Some seal) = (noted_line (n, seal), Done)
+
+-- the seal of a register, or of its first entries, with their number
+abbrev pub shown_seal : Option ℕ → List Entry → Shown
+shown_seal None L = (noted_line (noted_of L), Done)
+shown_seal (Some n) L = shown_first n (seal_of_first n L)
 
 -- what a warehouse with this register shows
 abbrev pub shown_of : Who → List Entry → Look → Shown

@@ -8,7 +8,7 @@ ghost use Rattle.commands.specs.Stops.{fault_in, HasDeviceFault};
 use crate::files::{MOST_SHEET, read_within};
 use crate::told::CommandError;
 use command_line::{BookAct, ClerkWords, Show, Task};
-use folders::FileSystem;
+use folders::{FileSystem, write_name};
 use intake::FolderStop;
 use itoa::Buffer;
 use profile::{MOST_NUMBER, MOST_TICKET};
@@ -199,6 +199,18 @@ fn counted(alloc: Global, name: &str, said: &str, count: u64) -> Result<String, 
     [name, said, number.format(count)].concat(alloc)
 }
 
+// The name of a file as it is told, so that none forges a line.
+fn told_name(alloc: Global, name: &str) -> Result<String, AllocError> {
+    let mut told = Vec::new(alloc);
+    if write_name(&mut told, name).is_err() {
+        return Err(AllocError);
+    }
+    match String::from_utf8(told) {
+        Ok(told) => Ok(told),
+        Err(_) => Err(AllocError),
+    }
+}
+
 // What is said of a file in a folder, and the count of the files before it.
 fn at_file(
     alloc: Global,
@@ -207,7 +219,8 @@ fn at_file(
     said: &str,
     taken: u64,
 ) -> Result<String, AllocError> {
-    let path = [dir, "/", name].concat(alloc)?;
+    let name = told_name(alloc, name)?;
+    let path = [dir, "/", name.as_str()].concat(alloc)?;
     counted(alloc, &path, said, taken)
 }
 

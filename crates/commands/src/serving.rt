@@ -56,6 +56,17 @@ fn access_of<'a>(service: &Service<'a>) -> Access<'a>
         doors: Some(Doors {
             names: service.hosts,
         }),
+        from: service.from,
+    }
+}
+
+// How many connections a service serves: more than any lives to serve, where nobody says.
+fn count_of(count: Option<u16>) -> u64
+    ensures { result ≡ meant.count_of count }
+{
+    match count {
+        Some(count) => u64::from(count),
+        None => u64::MAX,
     }
 }
 
@@ -170,8 +181,8 @@ fn serve_asking<
 
     ensures served { OnOk result (Comes F.step
         (λ old c new. IsServed access.entry (K.standing old) (K.standing new) c)
-        has_clock ask first book.old book.new service.now.count) }
-    ensures ended { OnErr result ((n : ℕ) × (n ≤ service.now.count) × Comes F.step
+        has_clock ask first book.old book.new (meant.count_of service.now.count)) }
+    ensures ended { OnErr result ((n : ℕ) × (n ≤ meant.count_of service.now.count) × Comes F.step
         (λ old c new. IsServed access.entry (K.standing old) (K.standing new) c)
         has_clock ask first book.old book.new n) }
     ensures goes { GoesOn (K.standing book.old) (K.standing book.new) }
@@ -191,7 +202,7 @@ fn serve_asking<
     serve_within(
         rt.alloc(),
         callers,
-        service.count,
+        count_of(service.count),
         book,
         access,
         clock,
@@ -235,9 +246,9 @@ pub fn serve_on<L: Callers, K: Keeper, A: FnMut() -> bool, W: io::Write, E: io::
     requires admits { A.IsAlwaysCallable admits }
 
     ensures served { OnOk result (HasServed K.standing (meant.access_of service.now)
-        has_clock first book.old book.new service.now.count) }
+        has_clock first book.old book.new (meant.count_of service.now.count)) }
     ensures ended { OnErr result (HasServedUpTo K.standing (meant.access_of service.now)
-        has_clock first book.old book.new service.now.count) }
+        has_clock first book.old book.new (meant.count_of service.now.count)) }
     ensures goes { GoesOn (K.standing book.old) (K.standing book.new) }
 {
     serve_asking(
@@ -275,7 +286,7 @@ pub fn crowd_of<'r, 'a>(
         rt.alloc(),
         listener,
         access_of(service),
-        service.count,
+        count_of(service.count),
         service.peers,
         &patience_of(rt, service),
     )
@@ -296,9 +307,9 @@ pub fn serve<K: Keeper, W: io::Write, E: io::Write>(
     err: &mut E,
 ) -> Result<ExitStatus, CommandError>
     ensures served { OnOk result (HasServed K.standing (meant.access_of service.now)
-        has_clock first book.old book.new service.now.count) }
+        has_clock first book.old book.new (meant.count_of service.now.count)) }
     ensures ended { OnErr result (HasServedUpTo K.standing (meant.access_of service.now)
-        has_clock first book.old book.new service.now.count) }
+        has_clock first book.old book.new (meant.count_of service.now.count)) }
     ensures goes { GoesOn (K.standing book.old) (K.standing book.new) }
 {
     let listener = match TcpListener::bind(rt, service.address) {

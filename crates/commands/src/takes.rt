@@ -2,6 +2,7 @@ ghost use Rattle.std.specs.Prelude.{◌≡◌, ◌∷◌, [], if◌then◌else�
 ghost use Rattle.std.specs.Io.KnownBytes.{Appends};
 ghost use Rattle.std.specs.List.{list_any};
 ghost use Rattle.folders.specs.Folders.{became_of};
+ghost use Rattle.folders.specs.Lines.{passed_line};
 ghost use Rattle.store.specs.Standing.{GoesOn};
 ghost use Rattle.commands.specs.Printing.{AppendsFront};
 ghost use Rattle.commands.specs.Stops.{IsDeviceStop};
@@ -26,9 +27,10 @@ fn status_of(outcome: FileOutcome) -> ExitStatus
     }
 }
 
-// More bytes than the line of a file has, whose name has at most 255 bytes: room for a line is made
-// before files are taken, so that telling what became of them wants no memory.
-const MOST_LINE: usize = 512;
+// More bytes than the line of a file has, whose name has at most 255 bytes, each told by four at
+// most: room for a line is made before files are taken, so that telling what became of them wants
+// no memory.
+const MOST_LINE: usize = 1_100;
 
 // Prints what became of a file.
 fn tell_file<W: io::Write>(
@@ -96,23 +98,28 @@ fn with_passed(status: ExitStatus, passed: &[PassedOver]) -> ExitStatus
     }
 }
 
-// Tells an entry that was passed over, and why.
-fn tell_entry<E: io::Write>(err: &mut E, entry: &PassedOver) -> io::Result<()> {
-    match &entry.name {
-        Some(name) => err.write_all(name.as_bytes())?,
-        None => err.write_all(b"an entry")?,
-    }
-    err.write_all(b" passed over: ")?;
-    err.write_all(entry.why.text().as_bytes())?;
-    err.write_all(b"\n")
+// Tells an entry that was passed over, and why. The line is made in `room` first, of which little
+// is wanted.
+fn tell_entry<E: io::Write>(err: &mut E, entry: &PassedOver, room: &mut Vec<u8>) -> io::Result<()>
+    ensures { OnOk result
+        (Appends (E.contents err.old) (E.contents err.new) (passed_line entry.now)) }
+{
+    room.clear();
+    entry.write_line(room)?;
+    err.write_all(room)
 }
 
 // Tells what was passed over, and why: all that may be meant as an interchange, where that is asked
 // for, and else what can't be taken because of its name.
-fn tell_passed<E: io::Write>(err: &mut E, passed: &[PassedOver], is_all: bool) -> io::Result<()> {
+fn tell_passed<E: io::Write>(
+    err: &mut E,
+    passed: &[PassedOver],
+    is_all: bool,
+    room: &mut Vec<u8>,
+) -> io::Result<()> {
     for entry in passed {
         if is_all || !matches!(entry.why, WhyPassed::NoFile) {
-            tell_entry(err, entry)?;
+            tell_entry(err, entry, room)?;
         }
     }
     Ok(())
@@ -147,7 +154,7 @@ pub fn take<R: FileSystem + AllocGlobal + Clone + Drop, K: Keeper, W: io::Write,
         Ok(folder) => {
             let status = tell_taken(out, &folder.files, &mut room)?;
             // What can't be told is left out: what became of the files is told.
-            let _ = tell_passed(err, &folder.passed, verbosity.explains);
+            let _ = tell_passed(err, &folder.passed, verbosity.explains, &mut room);
             Ok(with_passed(status, &folder.passed))
         }
         Err(stop) => {

@@ -1,2 +1,3 @@
+pub mod Askers
 pub mod Doors
 pub mod Reading

@@ -1,3 +1,6 @@
 pub mod Handing
 pub mod Taking
 mod RowsNumbers
+mod RowsNames
+pub mod ToldLaws
+mod RowsEndings

@@ -33,13 +33,15 @@ pub record HandedFile : Type 0 where
 abbrev pub IsText : (List ℕ → ℕ → List ℕ → Type 0) → List ℕ → List ℕ → Type 0
 IsText reads path text = reads path (MOST_BYTES + 1) text
 
--- The file's text was handed in, and the text of the reply is beside it, if the reply has one.
+-- The file's text was handed in, and the text of the reply is beside it, if the reply has one; else
+-- nothing is there, not an old one either.
 pub record IsHanded
-    (reads : List ℕ → ℕ → List ℕ → Type 0) (writes : List ℕ → List ℕ → Type 0) (dir : List ℕ)
-    (file : HandedFile) : Type 0 where
+    (reads : List ℕ → ℕ → List ℕ → Type 0) (writes : List ℕ → List ℕ → Type 0)
+    (lacks : List ℕ → Type 0) (dir : List ℕ) (file : HandedFile) : Type 0 where
   pub read : IsText reads (file_path dir file.name) file.text
   pub answered : text_of file.reply ≢ []
       → writes (answer_path (file_path dir file.name)) (text_of file.reply)
+  pub unanswered : text_of file.reply ≡ [] → lacks (answer_path (file_path dir file.name))
 
 -- The file of this name was handed in as P says, and this became of it.
 pub record IsFileHanded

@@ -1,13 +1,16 @@
 -- Entries of a folder that are passed over.
-use Rattle.std.specs.Prelude.{ℕ, Bool, List, length, if◌then◌else◌, nat_lt, ◌==◌, Some, None, Option, codes}
+use Rattle.std.specs.Prelude.{ℕ, Bool, List, length, if◌then◌else◌, nat_lt, ◌==◌, ◌||◌, Some, None, Option, codes}
 use Rattle.std.specs.List.{ends_with}
 use Rattle.folders.specs.declared.passing.TheConstants.{MOST_FILE_NAME}
 use Rattle.folders.specs.declared.passing.WhyPassed.{WhyPassed}
 use Rattle.folders.specs.declared.passing.WhyPassed.TheVariants.{NoFile, NoText, LongName}
 
--- whether a name is that of an interchange
+abbrev pub ends : List ℕ → List ℕ → Bool
+ends name ending = ends_with (λ a b. a == b) name ending
+
+-- whether a name is that of an interchange: it ends `.x12` or `.X12`
 abbrev pub is_interchange : List ℕ → Bool
-is_interchange name = ends_with (λ a b. a == b) name (codes ".x12")
+is_interchange name = ends name (codes ".x12") || ends name (codes ".X12")
 
 -- why an interchange isn't handed in, if it isn't
 abbrev pub why_passed : List ℕ → Bool → Option WhyPassed

@@ -37,3 +37,13 @@ pub fn write_answer<R: FileSystem + AllocGlobal>(
     let beside = answer_of(rt.alloc(), path)?;
     rt.replace(made.as_str(), beside.as_str(), answer)
 }
+
+/// Removes what stands under the name of the answer to the interchange in a file, if anything does.
+pub fn remove_answer<R: FileSystem + AllocGlobal>(rt: &R, path: &str) -> io::Result<()>
+    ensures removed { OnOk result (R.lacks rt.now (answer_path path.now)) }
+    ensures failed { IfErr result
+        (λ error. IsErrorAt (R.fails rt.now) (answer_path path.now) (error_kind error)) }
+{
+    let beside = answer_of(rt.alloc(), path)?;
+    rt.remove(beside.as_str())
+}

@@ -30,6 +30,9 @@ pub trait FileSystem {
     // Relates it, a path, and the bytes that a file of its own has there, since they were written.
     ghost writes: { Self → List ℕ → List ℕ → Type 0 } = { λ _ _ _. ⊤ };
 
+    // Relates it and a path under which nothing stands, since it was removed.
+    ghost lacks: { Self → List ℕ → Type 0 } = { λ _ _. ⊤ };
+
     // Relates it, the path that a call was about, and the kind of error with which it failed.
     ghost fails: { Self → List ℕ → ErrorKind → Type 0 } = { λ _ _ _. ⊤ };
 
@@ -52,5 +55,13 @@ pub trait FileSystem {
         requires path { is_interchange path.now ≡ false }
 
         ensures written { OnOk result (writes self.now path.now bytes.now) }
+        ensures failed { IfErr result (λ error. fails self.now path.now (error_kind error)) };
+
+    /// Removes what stands under a path, if anything does; of a link it is the link itself. No
+    /// interchange is ever removed: the path isn't that of one.
+    fn remove(&self, path: &str) -> io::Result<()>
+        requires path { is_interchange path.now ≡ false }
+
+        ensures removed { OnOk result (lacks self.now path.now) }
         ensures failed { IfErr result (λ error. fails self.now path.now (error_kind error)) };
 }

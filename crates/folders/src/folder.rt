@@ -9,7 +9,7 @@ ghost use Rattle.folders.specs.declared.passing.PassedOver.{PassedOver};
 ghost use Rattle.store.specs.Runs.{told};
 ghost use Rattle.store.specs.Standing.{GoesOn, IsUnchanged};
 
-use crate::answers::write_answer;
+use crate::answers::{remove_answer, write_answer};
 use crate::file_system::FileSystem;
 use crate::files::read_interchange;
 use crate::names::{Listing, listed};
@@ -82,17 +82,20 @@ fn bytes_of<R: FileSystem>(rt: &R, path: &str) -> Result<Vec<u8>, Fault>
     }
 }
 
-// Writes an answer beside its file, if there is one.
+// Writes an answer beside its file. Where it is empty, an old one is removed.
 fn leave_answer<R: FileSystem + AllocGlobal>(rt: &R, path: &str, answer: &[u8]) -> Result<(), Fault>
     ensures written { OnOk result
         (answer.now ≢ [] → R.writes rt.now (answer_path path.now) answer.now) }
+    ensures removed { OnOk result (answer.now ≡ [] → R.lacks rt.now (answer_path path.now)) }
     ensures named { IfErr result IsDeviceFault }
     ensures cause { IfErr result (HasCause (R.fails rt.now)) }
 {
-    if answer.is_empty() {
-        return Ok(());
-    }
-    match write_answer(rt, path, answer) {
+    let left = if answer.is_empty() {
+        remove_answer(rt, path)
+    } else {
+        write_answer(rt, path, answer)
+    };
+    match left {
         Ok(()) => Ok(()),
         Err(error) => Err(fault_of(&error)),
     }
@@ -145,7 +148,8 @@ fn take_file<R: FileSystem + AllocGlobal, K: Keeper>(
     moment: Moment,
 ) -> Result<FileOutcome, Fault>
     ensures taken { IfOk result
-        (λ outcome. IsFileHanded (IsHanded (R.reads rt.now) (R.writes rt.now) dir.now)
+        (λ outcome. IsFileHanded
+        (IsHanded (R.reads rt.now) (R.writes rt.now) (R.lacks rt.now) dir.now)
         (K.standing keeper.old) (K.standing keeper.new) moment name.now (became_of outcome)) }
     ensures stopped { IfErr result
         (λ fault. IsUntaken (IsText (R.reads rt.now) (file_path dir.now name.now)) fault
@@ -179,12 +183,14 @@ fn take_names<R: FileSystem + AllocGlobal, K: Keeper, T: FnMut(u64, u64)>(
 
     ensures each { IfOk result (λ files. map (λ file. file.name) files.items ≡ names.items) }
     ensures taken { IfOk result
-        (λ files. AreFilesHanded (IsHanded (R.reads rt.now) (R.writes rt.now) dir.now)
+        (λ files. AreFilesHanded
+        (IsHanded (R.reads rt.now) (R.writes rt.now) (R.lacks rt.now) dir.now)
         (K.standing keeper.old) (K.standing keeper.new) moment
         (map (λ file. string_bytes file.name) files.items)
         (map (λ file. became_of file.outcome) files.items)) }
     ensures stopped { IfErr result
-        (λ stop. IsStoppedWithin (IsHanded (R.reads rt.now) (R.writes rt.now) dir.now)
+        (λ stop. IsStoppedWithin
+        (IsHanded (R.reads rt.now) (R.writes rt.now) (R.lacks rt.now) dir.now)
         (λ name. IsText (R.reads rt.now) (file_path dir.now name)) stop
         (K.standing keeper.old) (K.standing keeper.new) moment names.items) }
     ensures cause { IfErr result (λ stop. HasCause (R.fails rt.now) stop.fault) }
@@ -209,15 +215,16 @@ fn take_names<R: FileSystem + AllocGlobal, K: Keeper, T: FnMut(u64, u64)>(
     Ok(files)
 }
 
-/// Submits each interchange of a folder, the regular files whose names end `.x12` and links to such
-/// files, in the order of their names' bytes, and writes a nonempty answer to the name with `.ans`
-/// added, as a file of its own that replaces what stands there. A file whose answer is there
-/// already is submitted again, and its answer written anew: so taking the folder again mends a stop
-/// at any place. After each file `told` is handed how many were taken of how many.
+/// Submits each interchange of a folder, the regular files whose names end `.x12` or `.X12` and
+/// links to such files, in the order of their names' bytes, and writes a nonempty answer to the
+/// name with `.ans` added, as a file of its own that replaces what stands there; where the answer
+/// is empty, what stands there is removed. A file whose answer is there already is submitted again,
+/// and its answer written anew: so taking the folder again mends a stop at any place. After each
+/// file `told` is handed how many were taken of how many.
 ///
 /// Passed over, and told, is what may be meant as an interchange: an entry of another kind whose
-/// name ends `.x12`, a file with such a name of more than 251 bytes, and each entry whose name
-/// isn't UTF-8. Other entries are no interchanges.
+/// name ends `.x12` or `.X12`, a file with such a name of more than 251 bytes, and each entry whose
+/// name isn't UTF-8. Other entries are no interchanges.
 ///
 /// Faults are those of `submit`, want of memory, and Device (44) where the folder can't be read, a
 /// file can't be read or an answer can't be written. After a fault the files before it are taken;
@@ -235,13 +242,14 @@ pub fn take_folder_telling<R: FileSystem + AllocGlobal, K: Keeper, T: FnMut(u64,
         (λ folder. IsListed (R.lists rt.now dir.now)
         (map (λ file. file.name) folder.files.items) folder.passed.items) }
     ensures handed { IfOk result
-        (λ folder. AreFilesHanded (IsHanded (R.reads rt.now) (R.writes rt.now) dir.now)
+        (λ folder. AreFilesHanded
+        (IsHanded (R.reads rt.now) (R.writes rt.now) (R.lacks rt.now) dir.now)
         (K.standing keeper.old) (K.standing keeper.new) moment
         (map (λ file. string_bytes file.name) folder.files.items)
         (map (λ file. became_of file.outcome) folder.files.items)) }
     ensures halted { IfErr result
         (λ stop. IsSome stop.at → IsStoppedIn (R.lists rt.now dir.now)
-        (IsHanded (R.reads rt.now) (R.writes rt.now) dir.now)
+        (IsHanded (R.reads rt.now) (R.writes rt.now) (R.lacks rt.now) dir.now)
         (λ name. IsText (R.reads rt.now) (file_path dir.now name)) stop
         (K.standing keeper.old) (K.standing keeper.new) moment) }
     ensures cause { IfErr result (λ stop. HasCause (R.fails rt.now) stop.fault) }
@@ -277,7 +285,8 @@ pub fn take_folder<R: FileSystem + AllocGlobal, K: Keeper>(
         (λ files. (passed : List PassedOver) × IsListed (R.lists rt.now dir.now)
         (map (λ file. file.name) files.items) passed) }
     ensures handed { IfOk result
-        (λ files. AreFilesHanded (IsHanded (R.reads rt.now) (R.writes rt.now) dir.now)
+        (λ files. AreFilesHanded
+        (IsHanded (R.reads rt.now) (R.writes rt.now) (R.lacks rt.now) dir.now)
         (K.standing keeper.old) (K.standing keeper.new) moment
         (map (λ file. string_bytes file.name) files.items)
         (map (λ file. became_of file.outcome) files.items)) }

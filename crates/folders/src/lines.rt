@@ -1,11 +1,13 @@
-//! The line that tells what became of a file.
+//! The lines that tell what became of a file, and what was passed over.
 ghost use Rattle.std.specs.Prelude.{◌≡◌, OnOk, string_bytes};
 ghost use Rattle.std.specs.Io.KnownBytes.{Appends};
 ghost use Rattle.profile.specs.declared.refusals.Refusal.TheVariants.{Note};
 ghost use Rattle.folders.specs.Folders.{became_of};
-ghost use Rattle.folders.specs.Lines.{became_text, refused_text, taken_line};
+ghost use Rattle.folders.specs.Lines.{became_text, passed_line, refused_text, taken_line, told_entry};
 
 use crate::folder::{FileOutcome, Taken};
+use crate::passing::PassedOver;
+use crate::told_names::write_name;
 use itoa::Buffer;
 use profile::{NOTE_DIGITS, zero_filled};
 use std::io;
@@ -52,14 +54,41 @@ fn write_outcome<W: io::Write>(out: &mut W, outcome: FileOutcome) -> io::Result<
 impl Taken {
     /// Writes the line that tells of it, as `a.x12 accepted`, `a.x12 stored`, `a.x12 refused 025`,
     /// with the three digits of a note's code or the number of another refusal, or `a.x12
-    /// unreadable`, with LF at its end. The one error is the writer's.
+    /// unreadable`, with LF at its end. The name is told as `write_name` does. The one error is the
+    /// writer's.
     pub fn write_line<W: io::Write>(&self, out: &mut W) -> io::Result<()>
         ensures { OnOk result (Appends (W.contents out.old) (W.contents out.new)
             (taken_line (string_bytes self.now.name) (became_of self.now.outcome))) }
     {
-        out.write_all(self.name.as_bytes())?;
+        write_name(out, &self.name)?;
         out.write_all(b" ")?;
         write_outcome(out, self.outcome)?;
+        out.write_all(b"\n")
+    }
+}
+
+// Writes the name of an entry that was passed over, as `write_name` does.
+fn write_entry<W: io::Write>(out: &mut W, name: &Option<String>) -> io::Result<()>
+    ensures { OnOk result
+        (Appends (W.contents out.old) (W.contents out.new) (told_entry name.now)) }
+{
+    match name {
+        Some(name) => write_name(out, name),
+        None => out.write_all(b"an entry"),
+    }
+}
+
+impl PassedOver {
+    /// Writes the line that tells of it, as `old.x12 passed over: no regular file`, with LF at its
+    /// end; without a name it is told as `an entry`. The name is told as `write_name` does. The one
+    /// error is the writer's.
+    pub fn write_line<W: io::Write>(&self, out: &mut W) -> io::Result<()>
+        ensures { OnOk result
+            (Appends (W.contents out.old) (W.contents out.new) (passed_line self.now)) }
+    {
+        write_entry(out, &self.name)?;
+        out.write_all(b" passed over: ")?;
+        out.write_all(self.why.text().as_bytes())?;
         out.write_all(b"\n")
     }
 }

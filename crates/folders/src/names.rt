@@ -45,11 +45,11 @@ fn place(entry: FolderEntry, listing: &mut Listing) -> Result<(), AllocError>
     Ok(())
 }
 
-/// What is in a folder: the names of the interchanges, which are the regular files that end `.x12`
-/// and links to such files, and what ends so and is passed over: a folder, a pipe, a socket, a
-/// device, a link that leads to no file, and a name of more than 251 bytes, to which `.ans` can't
-/// be added. An entry whose name isn't UTF-8 is passed over too, however it ends. Other entries are
-/// no interchanges, and nothing is said of them.
+/// What is in a folder: the names of the interchanges, which are the regular files whose names end
+/// `.x12` or `.X12` and links to such files, and what ends so and is passed over: a folder, a pipe,
+/// a socket, a device, a link that leads to no file, and a name of more than 251 bytes, to which
+/// `.ans` can't be added. An entry whose name isn't UTF-8 is passed over too, however it ends.
+/// Other entries are no interchanges, and nothing is said of them.
 pub fn listed<R: FileSystem + AllocGlobal>(rt: &R, dir: &str) -> io::Result<Listing>
     ensures all { IfOk result
         (λ listing. IsListed (R.lists rt.now dir.now) listing.names.items listing.passed.items) }

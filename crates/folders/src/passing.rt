@@ -39,11 +39,11 @@ pub struct PassedOver {
 /// The most bytes of a name to which `.ans` can be added: a name in a folder has 255 at most.
 pub(crate) const MOST_FILE_NAME: usize = 251;
 
-// Whether a name is that of an interchange.
+// Whether a name is that of an interchange: it ends `.x12` or `.X12`.
 pub(crate) fn is_interchange(name: &str) -> bool
     ensures { result ≡ meant.is_interchange name.now }
 {
-    name.as_bytes().ends_with(b".x12")
+    name.as_bytes().ends_with(b".x12") || name.as_bytes().ends_with(b".X12")
 }
 
 // Why an interchange of this name isn't handed in, if it isn't.

@@ -107,4 +107,8 @@ impl<R: Files + AllocGlobal> FileSystem for R {
         }
         written
     }
+
+    fn remove(&self, path: &str) -> io::Result<()> {
+        clear(self, path)
+    }
 }

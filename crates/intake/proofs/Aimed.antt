@@ -9,7 +9,10 @@ use Rattle.profile.specs.Response.{Response, Method, Route, Head, is_exchange, b
 use Rattle.store.specs.Standing.{Standing}
 use Rattle.intake.specs.Calls.{Call, call_of}
 use Rattle.intake.specs.Fields.{head_of}
-use Rattle.intake.specs.Admitting.{call_submitted, call_answer, command_in, answer_of}
+use Rattle.intake.specs.Admitting.{call_submitted, call_answer, command_in, command_for, answer_of, answer_for}
+use Rattle.intake.specs.Reaching.{asked_for, sent_for}
+use Rattle.doors.specs.declared.askers.Asker.{Asker}
+use Rattle.doors.specs.declared.askers.Asker.TheVariants.{Unnamed, Depositor, Unknown}
 use Rattle.intake.specs.Serving.{IsAnswered}
 use Rattle.intake.specs.Targets.{Target, ToRoute, ToCall, target_by, target_of, handed_in, asked_with, command_with, response_with}
 use Rattle.intake.specs.declared.audience.Audience.{Audience}
@@ -55,6 +58,21 @@ pub submits : (audience : Audience) (h : RequestHead) (rest : List ℕ) (q : Res
 submits Partners h rest q e = submitted_at None h rest q e
 submits Clerks h rest q e = submitted_at (call_of h.target) h rest q e
 
+-- where nobody is to say for whom a request is asked, it is asked for as ever
+
+sent_unnamed : (m : Method) (to : Target) (q : Result (List ℕ) ℕ) → sent_for Unnamed m to q ≡ q
+sent_unnamed m to (Err status) = refl
+sent_unnamed m to (Ok body) = refl
+
+pub asked_unnamed : (h : Head) (to : Target) (rest : List ℕ) → asked_for Unnamed h to rest ≡ asked_with h to rest
+asked_unnamed h to rest = sent_unnamed h.method to (asked_with h to rest)
+
+pub submits_for : (asker : Asker) (audience : Audience) (h : RequestHead) (rest : List ℕ) (q : Result (List ℕ) ℕ) → asked_for asker (head_of h) (target_of audience h.target) rest ≡ q
+    → command_for asker audience h rest ≡ command_with (head_of h).method (target_of audience h.target) q
+submits_for Unnamed audience h rest q e = submits audience h rest q (sym (asked_unnamed (head_of h) (target_of audience h.target) rest) ∙ e)
+submits_for (Depositor w) audience h rest q e = ap (command_with (head_of h).method (target_of audience h.target)) e
+submits_for Unknown audience h rest q e = ap (command_with (head_of h).method (target_of audience h.target)) e
+
 module _ (old new : Standing) (t : Moment) (r : Response) where
   -- an answer to what is asked for at a target
   abbrev pub Answers : Method → Target → Result (List ℕ) ℕ → Type 0
@@ -80,3 +98,10 @@ module _ (old new : Standing) (t : Moment) (r : Response) where
       → IsAnswered old new t (command_in audience (Some h) rest) (λ L. answer_of audience old.warehouse L (Some h) rest t) r
   to_request Partners h rest q e answer = at_call None h rest q e answer
   to_request Clerks h rest q e answer = at_call (call_of h.target) h rest q e answer
+
+  pub to_asker : (asker : Asker) (audience : Audience) (h : RequestHead) (rest : List ℕ) (q : Result (List ℕ) ℕ) → asked_for asker (head_of h) (target_of audience h.target) rest ≡ q
+      → Answers (head_of h).method (target_of audience h.target) q
+      → IsAnswered old new t (command_for asker audience h rest) (λ L. answer_for asker audience old.warehouse L h rest t) r
+  to_asker Unnamed audience h rest q e answer = to_request audience h rest q (sym (asked_unnamed (head_of h) (target_of audience h.target) rest) ∙ e) answer
+  to_asker (Depositor w) audience h rest q e answer = subst (Answers (head_of h).method (target_of audience h.target)) (sym e) answer
+  to_asker Unknown audience h rest q e answer = subst (Answers (head_of h).method (target_of audience h.target)) (sym e) answer

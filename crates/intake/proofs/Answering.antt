@@ -24,15 +24,17 @@ use Rattle.intake.specs.declared.served.RequestLine.{RequestLine}
 use Rattle.fields.specs.Fields.{most_head, most_fields}
 use Rattle.gauges.specs.Inputs.{IsInput}
 use Rattle.intake.specs.Requests.{HasNoHead}
-use Rattle.intake.specs.Admitting.{answer_of, answer_past, asks_past, barred_at, command_in, command_past}
-use Rattle.intake.specs.Serving.{IsAnswered, IsExchange, IsExchangeAfter, IsTargetServed}
-use Rattle.intake.specs.Targets.{Target, target_of, target_command, has_body, asked_with, command_with}
+use Rattle.intake.specs.Admitting.{answer_of, answer_past, asker_at, asks_past, barred_at, command_for, command_in, command_past}
+use Rattle.intake.specs.Reaching.{asked_for, may_reach, sent_for}
+use Rattle.doors.specs.declared.askers.Asker.{Asker}
+use Rattle.intake.specs.Serving.{IsAnswered, IsAskedServed, IsExchange, IsExchangeAfter}
+use Rattle.intake.specs.Targets.{Target, target_of, has_body, asked_with, command_with}
 use Rattle.intake.proofs.Heads.{head_within}
 use Rattle.gauges.proofs.InputLemmas.{had_input, more_input}
 use Rattle.intake.proofs.Filling.{own_input}
-use Rattle.intake.proofs.Aimed.{submits, to_request}
+use Rattle.intake.proofs.Aimed.{submits_for, to_asker}
 use Rattle.intake.proofs.Answered.{no_memory}
-use Rattle.intake.proofs.Asked.{asked_by}
+use Rattle.intake.proofs.Asked.{asked_by_asker}
 
 -- what is asked for, by each of the tests
 module _ (h : Head) (to : Target) (rest : List ℕ) where
@@ -65,39 +67,58 @@ at_error s t meant r is = inl (record {
   opened = λ c e. cc;
 })
 
-module _ (audience : Audience) (known : Option (List ℕ)) (t : Moment) (h : RequestHead) (start : List ℕ) (r : Response) (sender : Option Who) where
+-- what is asked for by one who may reach it
+module _ (asker : Asker) (h : Head) (to : Target) (rest : List ℕ) where
+  pub reached : may_reach asker to ≡ true → (q : Result (List ℕ) ℕ) → asked_with h to rest ≡ q → asked_for asker h to rest ≡ sent_for asker h.method to q
+  reached y q e = rw (y, e) refl
+
+  not_reached : may_reach asker to ≡ false → asked_for asker h to rest ≡ Err 403
+  not_reached y = rw y refl
+
+module _ (asker : Asker) (audience : Audience) (known : Option (List ℕ)) (t : Moment) (h : RequestHead) (start : List ℕ) (r : Response) (sender : Option Who) where
+  abbrev At : Target
+  At = target_of audience h.target
+
+  abbrev After : Standing → Standing → Type 0
+  After old new = IsExchangeAfter asker audience old new known t h start r sender
+
   -- the sender of what is submitted is told
-  sent_with : (rest : List ℕ) (q : Result (List ℕ) ℕ) → asked_with (head_of h) (target_of audience h.target) rest ≡ q
-      → sender ≡ sender_in (command_with (head_of h).method (target_of audience h.target) q) → TellsSender sender (command_in audience (Some h) rest) r
-  sent_with rest q e is = inl (is ∙ sym (ap sender_in (submits audience h rest q e)))
+  sent_with : (rest : List ℕ) (q : Result (List ℕ) ℕ) → asked_for asker (head_of h) At rest ≡ q
+      → sender ≡ sender_in (command_with (head_of h).method At q) → TellsSender sender (command_for asker audience h rest) r
+  sent_with rest q e is = inl (is ∙ sym (ap sender_in (submits_for asker audience h rest q e)))
 
   -- by a test that fails before the book is asked
   module _ (s : Standing) where
-    at_test : (input : List ℕ) (status : ℕ) → IsInput known input → asked_with (head_of h) (target_of audience h.target) (start ++ input) ≡ Err status → r ≡ bare status
-        → sender ≡ None → IsExchangeAfter audience s s known t h start r sender
+    at_test : (input : List ℕ) (status : ℕ) → IsInput known input → asked_for asker (head_of h) At (start ++ input) ≡ Err status → r ≡ bare status
+        → sender ≡ None → After s s
     at_test input status i q is none = record {
       input = input;
       is_input = i;
       sent = sent_with (start ++ input) (Err status) q none;
-      answered = to_request s s t r audience h (start ++ input) (Err status) q (at_error s t (bare status) r is);
-      shut = asked_by s r audience h (start ++ input) (Err status) q (λ was yes. cc);
+      answered = to_asker s s t r asker audience h (start ++ input) (Err status) q (at_error s t (bare status) r is);
+      shut = asked_by_asker s r asker audience h (start ++ input) (Err status) q (λ was yes. cc);
     }
 
-    pub encoded : (head_of h).is_encoded ≡ true → r ≡ bare 501 → sender ≡ None → IsExchangeAfter audience s s known t h start r sender
-    encoded e is none = at_test (unwrap_or known []) 501 (own_input known) (asked_encoded (head_of h) _ _ e) is none
+    pub foreign : may_reach asker At ≡ false → r ≡ bare 403 → sender ≡ None → After s s
+    foreign y is none = at_test (unwrap_or known []) 403 (own_input known) (not_reached asker (head_of h) At _ y) is none
 
-    pub refused : (status : ℕ) → (head_of h).is_encoded ≡ false → has_body (head_of h).method (target_of audience h.target) ≡ true
-        → stated_length (head_of h).lengths ≡ Err status → r ≡ bare status → sender ≡ None → IsExchangeAfter audience s s known t h start r sender
-    refused status e x l is none = at_test (unwrap_or known []) status (own_input known) (asked_badly (head_of h) _ _ status e x l) is none
+    pub encoded : may_reach asker At ≡ true → (head_of h).is_encoded ≡ true → r ≡ bare 501 → sender ≡ None → After s s
+    encoded y e is none = at_test (unwrap_or known []) 501 (own_input known) (reached asker (head_of h) At _ y (Err 501) (asked_encoded (head_of h) _ _ e)) is none
 
-    pub cut_off : (n : ℕ) (input tail : List ℕ) → tail ≡ start → IsInput known input → (head_of h).is_encoded ≡ false
-        → has_body (head_of h).method (target_of audience h.target) ≡ true → stated_length (head_of h).lengths ≡ Ok n
-        → length (tail ++ input) < n → r ≡ bare 400 → sender ≡ None → IsExchangeAfter audience s s known t h start r sender
-    cut_off n input tail same i e x l short is none =
-        at_test input 400 i (asked_cut_off (head_of h) _ _ n e x l (subst (λ (b : List ℕ). length (b ++ input) < n) same short)) is none
+    pub refused : (status : ℕ) → may_reach asker At ≡ true → (head_of h).is_encoded ≡ false → has_body (head_of h).method At ≡ true
+        → stated_length (head_of h).lengths ≡ Err status → r ≡ bare status → sender ≡ None → After s s
+    refused status y e x l is none =
+        at_test (unwrap_or known []) status (own_input known) (reached asker (head_of h) At _ y (Err status) (asked_badly (head_of h) _ _ status e x l)) is none
+
+    pub cut_off : (n : ℕ) (input tail : List ℕ) → tail ≡ start → IsInput known input → may_reach asker At ≡ true → (head_of h).is_encoded ≡ false
+        → has_body (head_of h).method At ≡ true → stated_length (head_of h).lengths ≡ Ok n
+        → length (tail ++ input) < n → r ≡ bare 400 → sender ≡ None → After s s
+    cut_off n input tail same i y e x l short is none =
+        at_test input 400 i
+        (reached asker (head_of h) At _ y (Err 400) (asked_cut_off (head_of h) _ _ n e x l (subst (λ (b : List ℕ). length (b ++ input) < n) same short))) is none
 
     -- where memory is wanting
-    pub wanting : r ≡ fault_response OutOfMemory → sender ≡ None → IsExchangeAfter audience s s known t h start r sender
+    pub wanting : r ≡ fault_response OutOfMemory → sender ≡ None → After s s
     wanting is none = record {
       input = unwrap_or known [];
       is_input = own_input known;
@@ -108,55 +129,62 @@ module _ (audience : Audience) (known : Option (List ℕ)) (t : Moment) (h : Req
 
   -- by the book
   module _ (old new : Standing) where
+    -- what a body is asked with
+    abbrev With : List ℕ → Result (List ℕ) ℕ
+    With body = sent_for asker (head_of h).method At (Ok body)
+
     -- a request with this body is served
     abbrev pub Told : List ℕ → Type 0
-    Told body = IsTargetServed old new t (head_of h).method (target_of audience h.target) body r
+    Told body = IsAskedServed old new t (head_of h).method At (With body) r
 
     -- and its sender is told
     abbrev pub Sent : List ℕ → Type 0
-    Sent body = sender ≡ sender_in (target_command (head_of h).method (target_of audience h.target) body)
+    Sent body = sender ≡ sender_in (command_with (head_of h).method At (With body))
 
-    pub queried : (head_of h).is_encoded ≡ false → has_body (head_of h).method (target_of audience h.target) ≡ false → Told [] → Sent []
-        → IsExchangeAfter audience old new known t h start r sender
-    queried e x is from =
+    pub queried : may_reach asker At ≡ true → (head_of h).is_encoded ≡ false → has_body (head_of h).method At ≡ false → Told [] → Sent [] → After old new
+    queried y e x is from =
         let rest : List ℕ = start ++ unwrap_or known [] in
-        let q : asked_with (head_of h) (target_of audience h.target) rest ≡ Ok [] = asked_else (head_of h) _ rest e x in
+        let q : asked_for asker (head_of h) At rest ≡ With [] = reached asker (head_of h) At rest y (Ok []) (asked_else (head_of h) _ rest e x) in
         record {
           input = unwrap_or known [];
           is_input = own_input known;
-          sent = sent_with rest (Ok []) q from;
-          answered = to_request old new t r audience h rest (Ok []) q is.answered;
-          shut = asked_by old r audience h rest (Ok []) q is.shut;
+          sent = sent_with rest (With []) q from;
+          answered = to_asker old new t r asker audience h rest (With []) q is.answered;
+          shut = asked_by_asker old r asker audience h rest (With []) q is.shut;
         }
 
-    pub handed : (n : ℕ) (input body tail : List ℕ) → tail ≡ start → IsInput known input → (head_of h).is_encoded ≡ false
-        → has_body (head_of h).method (target_of audience h.target) ≡ true → stated_length (head_of h).lengths ≡ Ok n
-        → n ≤ length (tail ++ input) → body ≡ take n (tail ++ input) → Told body → Sent body → IsExchangeAfter audience old new known t h start r sender
-    handed n input body tail same i e x l fits b is from =
-        let q : asked_with (head_of h) (target_of audience h.target) (start ++ input) ≡ Ok body =
+    pub handed : (n : ℕ) (input body tail : List ℕ) → tail ≡ start → IsInput known input → may_reach asker At ≡ true → (head_of h).is_encoded ≡ false
+        → has_body (head_of h).method At ≡ true → stated_length (head_of h).lengths ≡ Ok n
+        → n ≤ length (tail ++ input) → body ≡ take n (tail ++ input) → Told body → Sent body → After old new
+    handed n input body tail same i y e x l fits b is from =
+        let w : asked_with (head_of h) At (start ++ input) ≡ Ok body =
         asked_whole (head_of h) _ (start ++ input) n e x l (subst (λ (k : List ℕ). n ≤ length (k ++ input)) same fits)
         ∙ ap (λ (k : List ℕ). Ok k) (sym (b ∙ ap (λ (k : List ℕ). take n (k ++ input)) same)) in
+        let q : asked_for asker (head_of h) At (start ++ input) ≡ With body = reached asker (head_of h) At (start ++ input) y (Ok body) w in
         record {
           input = input;
           is_input = i;
-          sent = sent_with (start ++ input) (Ok body) q from;
-          answered = to_request old new t r audience h (start ++ input) (Ok body) q is.answered;
-          shut = asked_by old r audience h (start ++ input) (Ok body) q is.shut;
+          sent = sent_with (start ++ input) (With body) q from;
+          answered = to_asker old new t r asker audience h (start ++ input) (With body) q is.answered;
+          shut = asked_by_asker old r asker audience h (start ++ input) (With body) q is.shut;
         }
 
--- what is served by a method and a target is served by those of the head
-pub at_head : (audience : Audience) (old new : Standing) (t : Moment) (h : RequestHead) (m : Method) (to : Target) (body : List ℕ) (r : Response)
-    → (head_of h).method ≡ m → target_of audience h.target ≡ to
-    → IsTargetServed old new t m to body r → IsTargetServed old new t (head_of h).method (target_of audience h.target) body r
-at_head audience old new t h m to body r e f is =
-    subst (λ (k : Method). IsTargetServed old new t k (target_of audience h.target) body r) (sym e)
-    (subst (λ (k : Target). IsTargetServed old new t m k body r) (sym f) is)
+-- what is served for an asker, by a method and a target, is served for that of the head, by those of
+-- the head
+pub at_head : (audience : Audience) (old new : Standing) (t : Moment) (h : RequestHead) (own asker : Asker) (m : Method) (to : Target) (body : List ℕ) (r : Response)
+    → own ≡ asker → (head_of h).method ≡ m → target_of audience h.target ≡ to
+    → IsAskedServed old new t m to (sent_for asker m to (Ok body)) r
+    → IsAskedServed old new t (head_of h).method (target_of audience h.target) (sent_for own (head_of h).method (target_of audience h.target) (Ok body)) r
+at_head audience old new t h own asker m to body r s e f is =
+    subst (λ (a : Asker). IsAskedServed old new t (head_of h).method (target_of audience h.target) (sent_for a (head_of h).method (target_of audience h.target) (Ok body)) r) (sym s)
+    (subst (λ (k : Method). IsAskedServed old new t k (target_of audience h.target) (sent_for asker k (target_of audience h.target) (Ok body)) r) (sym e)
+    (subst (λ (k : Target). IsAskedServed old new t m k (sent_for asker m k (Ok body)) r) (sym f) is))
 
 -- and so the sender
-pub from_head : (audience : Audience) (h : RequestHead) (m : Method) (to : Target) (body : List ℕ) (sender : Option Who)
-    → (head_of h).method ≡ m → target_of audience h.target ≡ to → sender ≡ sender_in (target_command m to body)
-    → sender ≡ sender_in (target_command (head_of h).method (target_of audience h.target) body)
-from_head audience h m to body sender e f is = rw (e, f) is
+pub from_head : (audience : Audience) (h : RequestHead) (own asker : Asker) (m : Method) (to : Target) (body : List ℕ) (sender : Option Who)
+    → own ≡ asker → (head_of h).method ≡ m → target_of audience h.target ≡ to → sender ≡ sender_in (command_with m to (sent_for asker m to (Ok body)))
+    → sender ≡ sender_in (command_with (head_of h).method (target_of audience h.target) (sent_for own (head_of h).method (target_of audience h.target) (Ok body)))
+from_head audience h own asker m to body sender s e f is = rw (s, e, f) is
 
 -- what the spans cover are the method and the path of the head
 told_of : (line : Option RequestLine) (got : List ℕ) (fields : List HeaderSpan) (spans : RequestSpans) (h : RequestHead)
@@ -181,7 +209,7 @@ line_read (Some line) known mid got fields spans h room many within at bytes cop
 -- the answer to a head that isn't turned away is the answer to the input that begins with it
 pub whole_answer : (access : Access) (old new : Standing) (t : Moment) (known mid : Option (List ℕ)) (got : List ℕ) (fields : List HeaderSpan) (spans : RequestSpans) (h : RequestHead) (r : Response) (line : Option RequestLine) (sender : Option Who)
     → length got ≤ most_head → length fields ≤ most_fields → IsRequestWithin got fields spans → IsRequestAt got fields spans h → Consumes known mid got → IfSome line (IsLineAt got spans)
-    → barred_at access.doors h ≡ None → IsExchangeAfter access.audience old new mid t h (drop spans.len got) r sender → IsExchange access old new known t r line sender
+    → barred_at access.doors h ≡ None → IsExchangeAfter (asker_at access h) access.audience old new mid t h (drop spans.len got) r sender → IsExchange access old new known t r line sender
 whole_answer access old new t known mid got fields spans h r line sender room many within at bytes copied past answer = record {
   input = got ++ answer.input;
   is_input = more_input known mid got answer.input bytes answer.is_input;
@@ -189,11 +217,11 @@ whole_answer access old new t known mid got fields spans h r line sender room ma
   rest = drop spans.len got ++ answer.input;
   begins = head_within got answer.input fields spans h room many within at;
   told = told_of line got fields spans h at copied;
-  sent = subst (λ (b : Option Barred). TellsSender sender (command_past b access.audience h (drop spans.len got ++ answer.input)) r) (sym past) answer.sent;
+  sent = subst (λ (b : Option Barred). TellsSender sender (command_past b access h (drop spans.len got ++ answer.input)) r) (sym past) answer.sent;
   answered =
-      subst (λ (b : Option Barred). IsAnswered old new t (command_past b access.audience h (drop spans.len got ++ answer.input))
-      (λ L. answer_past b access.audience old.warehouse L h (drop spans.len got ++ answer.input) t) r) (sym past) answer.answered;
-  shut = subst (λ (b : Option Barred). IsShutAnswer old (asks_past b access.audience h (drop spans.len got ++ answer.input)) r) (sym past) answer.shut;
+      subst (λ (b : Option Barred). IsAnswered old new t (command_past b access h (drop spans.len got ++ answer.input))
+      (λ L. answer_past b access old.warehouse L h (drop spans.len got ++ answer.input) t) r) (sym past) answer.answered;
+  shut = subst (λ (b : Option Barred). IsShutAnswer old (asks_past b access h (drop spans.len got ++ answer.input)) r) (sym past) answer.shut;
 }
 
 -- by the status that tells why a head is turned away
@@ -218,11 +246,11 @@ turned_away access s t known mid got fields spans h why r line sender room many 
       rest = rest;
       begins = head_within got (unwrap_or mid []) fields spans h room many within at;
       told = told_of line got fields spans h at copied;
-      sent = subst (λ (b : Option Barred). TellsSender sender (command_past b access.audience h rest) r) (sym is) (inl unsent);
+      sent = subst (λ (b : Option Barred). TellsSender sender (command_past b access h rest) r) (sym is) (inl unsent);
       answered =
-          subst (λ (b : Option Barred). IsAnswered s s t (command_past b access.audience h rest) (λ L. answer_past b access.audience s.warehouse L h rest t) r) (sym is)
+          subst (λ (b : Option Barred). IsAnswered s s t (command_past b access h rest) (λ L. answer_past b access s.warehouse L h rest t) r) (sym is)
           (at_error s t (bare (status_of why)) r says);
-      shut = λ was asks. absurd (let d : false ≡ true = subst (λ (b : Option Barred). asks_past b access.audience h rest ≡ true) is asks in cc);
+      shut = λ was asks. absurd (let d : false ≡ true = subst (λ (b : Option Barred). asks_past b access h rest ≡ true) is asks in cc);
     }
 
 -- no head, whoever is served: nothing is handed in

@@ -20,3 +20,4 @@ pub mod Inserting
 pub mod Beginnings
 pub mod Whole
 pub mod Told
+pub mod Others

@@ -20,7 +20,7 @@ a_count = refl
 a_pick : call_of (codes "/pick/ZZ-ACME/T2/SO100") ≡ Some (ToDeed PickSheet (codes "ZZ-ACME") (codes "T2") (codes "SO100"))
 a_pick = refl
 
-a_recount : call_of (codes "/recount/ZZ-ACME/T3") ≡ Some (ToDeed RecountSheet (codes "ZZ-ACME") (codes "T3") [])
+a_recount : call_of (codes "/recount/ZZ-ACME/C-3") ≡ Some (ToDeed RecountSheet (codes "ZZ-ACME") (codes "C-3") [])
 a_recount = refl
 
 an_order : call_of (codes "/orders/ZZ-ACME/SO100") ≡ Some (ToOrder (codes "ZZ-ACME") (codes "SO100"))
@@ -51,7 +51,7 @@ open_of_an_empty_part = refl
 a_count_without_number : call_of (codes "/count/ZZ-ACME/T1") ≡ None
 a_count_without_number = refl
 
-a_recount_with_number : call_of (codes "/recount/ZZ-ACME/T3/SHP1") ≡ None
+a_recount_with_number : call_of (codes "/recount/ZZ-ACME/C-3/SHP1") ≡ None
 a_recount_with_number = refl
 
 another_name : call_of (codes "/counts/ZZ-ACME/T1/SHP1") ≡ None

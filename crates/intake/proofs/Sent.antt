@@ -1,5 +1,5 @@
 -- who sent what a request submits
-use Rattle.std.proofs.Common.{◌≡◌, ℕ, List, Bool, true, false, Option, Some, None, refl, sym, ap, if◌then◌else◌}
+use Rattle.std.proofs.Common.{◌≡◌, ℕ, List, Bool, true, false, Option, Some, None, refl, sym, subst, ap, if◌then◌else◌}
 use Rattle.std.specs.Prelude.{Result, Ok, Err, option_map}
 use Rattle.profile.specs.declared.rules.Rules.TheVariants.{Two}
 use Rattle.profile.specs.Accepted.{depositor_of, subject}
@@ -8,11 +8,20 @@ use Rattle.profile.specs.Header.{Who}
 use Rattle.profile.specs.Means.{Line}
 use Rattle.profile.specs.declared.refusals.Refusal.{Refusal}
 use Rattle.profile.specs.Register.{Command, Interchange, command_mark}
-use Rattle.profile.specs.Response.{Method, Get, Post, OtherMethod, is_exchange}
+use Rattle.profile.specs.Moments.{Moment}
+use Rattle.profile.specs.Response.{Method, Get, Post, OtherMethod, Response, bare, is_exchange}
+use Rattle.store.specs.Standing.{Standing}
+use Rattle.store.proofs.Changes.{unchanged_refl}
 use Rattle.sheet_texts.specs.Texts.{sheet_of_text}
 use Rattle.intake.specs.Calls.{Call, ToDeed, ToOrder, ToExport, ToOpen, ToDepositors, depositor_of as owner_of_deed, with_sheet, by_depositor, deed_command, call_command}
+use Rattle.intake.specs.Reaching.{sent_for}
+use Rattle.doors.specs.Askers.{may_send}
 use Rattle.intake.specs.Lines.{sender_in}
-use Rattle.intake.specs.Targets.{Target, ToRoute, ToCall, hands_in, target_command}
+use Rattle.doors.specs.declared.askers.Asker.{Asker}
+use Rattle.intake.specs.Asking.{IsShutResponse}
+use Rattle.intake.specs.Serving.{IsAskedServed, IsTargetServed}
+use Rattle.intake.specs.Targets.{Target, ToRoute, ToCall, command_with, hands_in, target_command}
+use Rattle.intake.proofs.Answered.{shown}
 
 -- the depositor that a command names stands beside its key
 
@@ -71,3 +80,25 @@ sent_at m (ToRoute route) body o e is = by (is_exchange m route) e
     by true e = is
     by false e = cc
 sent_at m (ToCall call) body o e is = cc
+
+-- what is handed in for its asker is asked with, and what isn't is told as turned away
+
+module _ (asker : Asker) (m : Method) (to : Target) (body : List ℕ) (sender : Option Who) where
+  pub may_be_sent : sender ≡ sender_in (target_command m to body) → may_send asker sender ≡ true → sent_for asker m to (Ok body) ≡ Ok body
+  may_be_sent is may = rw (sym is, may) refl
+
+  pub may_not_be_sent : sender ≡ sender_in (target_command m to body) → may_send asker sender ≡ false → sent_for asker m to (Ok body) ≡ Err 403
+  may_not_be_sent is may = rw (sym is, may) refl
+
+-- and so its response and its sender
+module _ (old new : Standing) (t : Moment) (m : Method) (to : Target) (r : Response) where
+  pub sent_served : (q : Result (List ℕ) ℕ) (body : List ℕ) → q ≡ Ok body → IsTargetServed old new t m to body r → IsAskedServed old new t m to q r
+  sent_served q body e is = subst (λ (k : Result (List ℕ) ℕ). IsAskedServed old new t m to k r) (sym e) is
+
+pub sent_turned : (s : Standing) (t : Moment) (m : Method) (to : Target) (status : ℕ) (r : Response) (q : Result (List ℕ) ℕ) → q ≡ Err status → r ≡ bare status → IsAskedServed s s t m to q r
+sent_turned s t m to status r q e is =
+    subst (λ (k : Result (List ℕ) ℕ). IsAskedServed s s t m to k r) (sym e)
+    (shown s s t (λ L. bare status) false IsShutResponse r (λ clean L keeps legal. is) (unchanged_refl s) (λ was asks. absurd (cc)))
+
+pub sent_sender : (m : Method) (to : Target) (sender : Option Who) (q : Result (List ℕ) ℕ) {p : Result (List ℕ) ℕ} → q ≡ p → sender ≡ sender_in (command_with m to p) → sender ≡ sender_in (command_with m to q)
+sent_sender m to sender q e is = rw e is

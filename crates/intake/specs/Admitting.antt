@@ -10,10 +10,14 @@ use Rattle.profile.specs.Moments.{Moment}
 use Rattle.profile.specs.Header.{Who}
 use Rattle.profile.specs.Register.{Command, Entry, Interchange}
 use Rattle.profile.specs.Response.{Response, bare, response_to, submitted}
-use Rattle.intake.specs.Asking.{asks_in}
+use Rattle.intake.specs.Reaching.{asked_for}
+use Rattle.doors.specs.Askers.{asker_of}
+use Rattle.intake.specs.Asking.{asks_in, asks_with}
 use Rattle.intake.specs.Calls.{Call, call_of}
 use Rattle.intake.specs.Fields.{head_of}
-use Rattle.intake.specs.Targets.{ToCall, asked_with, command_with, response_with}
+use Rattle.intake.specs.Targets.{ToCall, asked_with, command_with, response_with, target_of}
+use Rattle.doors.specs.declared.askers.Asker.{Asker}
+use Rattle.doors.specs.declared.askers.Asker.TheVariants.{Unnamed}
 use Rattle.intake.specs.declared.audience.Access.{Access}
 use Rattle.intake.specs.declared.audience.Audience.{Audience}
 use Rattle.intake.specs.declared.audience.Audience.TheVariants.{Partners, Clerks}
@@ -43,11 +47,33 @@ answer_of Partners W L head rest t = response_to Two W L (option_map head_of hea
 answer_of Clerks W L None rest t = response_to Two W L None rest t
 answer_of Clerks W L (Some h) rest t = call_answer (call_of h.target) W L h rest t
 
+-- For whom requests are asked.
+
+-- where what stands in front is to say it, by the body that is asked with; else as ever
+abbrev pub command_for : Asker → Audience → RequestHead → List ℕ → Option Command
+command_for Unnamed audience h rest = command_in audience (Some h) rest
+command_for asker audience h rest =
+    let to = target_of audience h.target in
+    command_with (head_of h).method to (asked_for asker (head_of h) to rest)
+
+abbrev pub answer_for : Asker → Audience → Who → List Entry → RequestHead → List ℕ → Moment
+    → Response
+answer_for Unnamed audience W L h rest t = answer_of audience W L (Some h) rest t
+answer_for asker audience W L h rest t =
+    let to = target_of audience h.target in
+    response_with W L (head_of h).method to t (asked_for asker (head_of h) to rest)
+
+abbrev pub asks_for : Asker → Audience → RequestHead → List ℕ → Bool
+asks_for Unnamed audience h rest = asks_in audience (Some h) rest
+asks_for asker audience h rest =
+    let to = target_of audience h.target in
+    asks_with (head_of h).method to (asked_for asker (head_of h) to rest)
+
 -- Which requests are turned away.
 
--- partners are served, and nobody is turned away
+-- partners are served, nobody is turned away, and nobody is to say for whom a request is asked
 abbrev pub of_partners : Access
-of_partners = record { audience = Partners; doors = None }
+of_partners = record { audience = Partners; doors = None; from = None }
 
 -- why a request is turned away at these doors; where there are none, no request is
 abbrev pub barred_at : Option Doors → RequestHead → Option Barred
@@ -55,31 +81,36 @@ barred_at None h = None
 barred_at (Some doors) h =
     barred_of (names_of doors.names) h.method (map name_and_value h.fields)
 
+-- for whom a request with this head is asked
+abbrev pub asker_at : Access → RequestHead → Asker
+asker_at access h = asker_of access.from (map name_and_value h.fields)
+
 -- the command that a request submits: one that is turned away submits none
-abbrev pub command_past : Option Barred → Audience → RequestHead → List ℕ → Option Command
-command_past None audience h rest = command_in audience (Some h) rest
-command_past (Some why) audience h rest = None
+abbrev pub command_past : Option Barred → Access → RequestHead → List ℕ → Option Command
+command_past None access h rest = command_for (asker_at access h) access.audience h rest
+command_past (Some why) access h rest = None
 
 abbrev pub command_by : Access → Option RequestHead → List ℕ → Option Command
 command_by access None rest = command_in access.audience None rest
-command_by access (Some h) rest = command_past (barred_at access.doors h) access.audience h rest
+command_by access (Some h) rest = command_past (barred_at access.doors h) access h rest
 
 -- the response to it: to one that is turned away, the status that says why
-abbrev pub answer_past : Option Barred → Audience → Who → List Entry → RequestHead → List ℕ
-    → Moment → Response
-answer_past None audience W L h rest t = answer_of audience W L (Some h) rest t
-answer_past (Some why) audience W L h rest t = bare (status_of why)
+abbrev pub answer_past : Option Barred → Access → Who → List Entry → RequestHead → List ℕ → Moment
+    → Response
+answer_past None access W L h rest t =
+    answer_for (asker_at access h) access.audience W L h rest t
+answer_past (Some why) access W L h rest t = bare (status_of why)
 
 abbrev pub answer_by : Access → Who → List Entry → Option RequestHead → List ℕ → Moment → Response
 answer_by access W L None rest t = answer_of access.audience W L None rest t
 answer_by access W L (Some h) rest t =
-    answer_past (barred_at access.doors h) access.audience W L h rest t
+    answer_past (barred_at access.doors h) access W L h rest t
 
 -- whether it asks the book for anything
-abbrev pub asks_past : Option Barred → Audience → RequestHead → List ℕ → Bool
-asks_past None audience h rest = asks_in audience (Some h) rest
-asks_past (Some why) audience h rest = false
+abbrev pub asks_past : Option Barred → Access → RequestHead → List ℕ → Bool
+asks_past None access h rest = asks_for (asker_at access h) access.audience h rest
+asks_past (Some why) access h rest = false
 
 abbrev pub asks_by : Access → Option RequestHead → List ℕ → Bool
 asks_by access None rest = asks_in access.audience None rest
-asks_by access (Some h) rest = asks_past (barred_at access.doors h) access.audience h rest
+asks_by access (Some h) rest = asks_past (barred_at access.doors h) access h rest

@@ -5,7 +5,10 @@ use Rattle.profile.specs.Moments.{Moment}
 use Rattle.store.specs.Standing.{Standing, IsUnchanged, GoesOn}
 use Rattle.store.specs.Fault.TheVariants.{Device}
 use Rattle.intake.specs.Serving.{IsResponseWritten, IsUnread, IsUnwritten}
+use Rattle.std.specs.declared.net.socket_addr.SocketAddr.{SocketAddr}
 use Rattle.intake.specs.declared.audience.Access.{Access}
+use Rattle.intake.specs.declared.callers.Caller.{Caller}
+use Rattle.intake.specs.declared.callers.Caller.TheVariants as callers
 use Rattle.intake.specs.declared.served.Connection.{Connection}
 
 -- a status was answered, or the fault is Device
@@ -14,6 +17,11 @@ IsConnectionOutcome c = IfErr c.served.outcome (λ fault. fault ≡ Device)
 
 abbrev pub moment_of : Connection → Moment
 moment_of c = c.moment
+
+-- where a connection comes from that is to be served
+abbrev pub address_of : Caller → SocketAddr
+address_of (callers.Direct stream peer) = peer
+address_of (callers.Gathered arrival) = arrival.peer.address
 
 -- A connection that was accepted: there is what its peer sent and what was written to it, where
 -- these are known, and how often a read and a write of it failed, of which its outcome, its line,

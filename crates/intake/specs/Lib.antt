@@ -7,6 +7,7 @@ pub mod Calls
 pub mod Targets
 pub mod Slips
 pub mod Asking
+pub mod Reaching
 pub mod Admitting
 pub mod Serving
 pub mod Connections

@@ -1,5 +1,5 @@
 -- What a request is answered, and what it leaves of the book.
-use Rattle.std.specs.Prelude.{◌≡◌, ◌⊎◌, ℕ, Bool, true, false, List, ◌++◌, Option, Some, None, IfSome, length}
+use Rattle.std.specs.Prelude.{◌≡◌, ◌⊎◌, ℕ, Bool, true, false, List, ◌++◌, Option, Some, None, Result, IfSome, length}
 use Rattle.httparse.specs.Grammar.{RequestHead}
 use Rattle.profile.specs.declared.rules.Rules.TheVariants.{Two}
 use Rattle.profile.specs.Moments.{Moment}
@@ -11,13 +11,14 @@ use Rattle.store.specs.Standing.{Standing, IsUsable, IsUnchanged, IsFault, GoesO
 use Rattle.store.specs.Fault.{Fault}
 use Rattle.std.specs.Io.KnownBytes.{Appends}
 use Rattle.gauges.specs.Gauges.{Grew, AppendsBeginning}
-use Rattle.intake.specs.Asking.{asks_in, route_asks, call_asks, target_asks, IsShutAnswer, IsShutResponse}
+use Rattle.intake.specs.Asking.{asks_with, route_asks, call_asks, target_asks, IsShutAnswer, IsShutResponse}
 use Rattle.gauges.specs.Inputs.{IsInput}
 use Rattle.intake.specs.Requests.{HasRequestHead, HasNoHead}
 use Rattle.intake.specs.Lines.{TellsOf, HasLine, TellsSender}
-use Rattle.intake.specs.Admitting.{answer_by, answer_of, asks_by, command_by, command_in}
+use Rattle.intake.specs.Admitting.{answer_by, answer_for, asks_by, asks_for, command_by, command_for}
 use Rattle.intake.specs.Calls.{Call, call_command, call_resp}
-use Rattle.intake.specs.Targets.{Target, handed_in, target_command, target_resp}
+use Rattle.intake.specs.Targets.{Target, command_with, handed_in, response_with, target_command, target_resp}
+use Rattle.doors.specs.declared.askers.Asker.{Asker}
 use Rattle.intake.specs.declared.audience.Access.{Access}
 use Rattle.intake.specs.declared.audience.Audience.{Audience}
 use Rattle.intake.specs.declared.served.RequestLine.{RequestLine}
@@ -75,6 +76,14 @@ IsTargetServed old new t method to body r =
     (λ L. target_resp old.warehouse L method to body t) (target_asks method to body)
     IsShutResponse r
 
+-- the same of a target that was asked for with a body, or of which a test failed with a status
+abbrev pub IsAskedServed : Standing → Standing → Moment → Method → Target → Result (List ℕ) ℕ
+    → Response → Type 0
+IsAskedServed old new t method to asked r =
+    IsRequestServed old new t (command_with method to asked)
+    (λ L. response_with old.warehouse L method to t asked) (asks_with method to asked)
+    IsShutResponse r
+
 abbrev pub IsCallServed : Standing → Standing → Moment → Method → Call → List ℕ → Response → Type 0
 IsCallServed old new t method call body r =
     IsRequestServed old new t (call_command method call body)
@@ -103,16 +112,18 @@ pub record IsExchange
       (λ L. answer_by access old.warehouse L head rest t) r
   pub shut : IsShutAnswer old (asks_by access head rest) r
 
--- the same of a request whose head was read and that isn't turned away, with the first bytes of what is after it
+-- The same of a request whose head was read and that the doors don't turn away, with the first bytes
+-- of what is after it.
 pub record IsExchangeAfter
-    (audience : Audience) (old new : Standing) (known : Option (List ℕ)) (t : Moment)
-    (h : RequestHead) (start : List ℕ) (r : Response) (sender : Option Who) : Type 0 where
+    (asker : Asker) (audience : Audience) (old new : Standing) (known : Option (List ℕ))
+    (t : Moment) (h : RequestHead) (start : List ℕ) (r : Response) (sender : Option Who)
+    : Type 0 where
   pub input : List ℕ
   pub is_input : IsInput known input
-  pub sent : TellsSender sender (command_in audience (Some h) (start ++ input)) r
-  pub answered : IsAnswered old new t (command_in audience (Some h) (start ++ input))
-      (λ L. answer_of audience old.warehouse L (Some h) (start ++ input) t) r
-  pub shut : IsShutAnswer old (asks_in audience (Some h) (start ++ input)) r
+  pub sent : TellsSender sender (command_for asker audience h (start ++ input)) r
+  pub answered : IsAnswered old new t (command_for asker audience h (start ++ input))
+      (λ L. answer_for asker audience old.warehouse L h (start ++ input) t) r
+  pub shut : IsShutAnswer old (asks_for asker audience h (start ++ input)) r
 
 -- A response was written: it was that to what the reader had. What is told is its status, the line
 -- of the request, who sent the interchange that was handed in, and how many bytes the response has.

@@ -18,10 +18,16 @@ pub struct Access<'n> {
     pub audience: Audience,
     /// What turns a request away by its head; nothing does where there are none.
     pub doors: Option<Doors<'n>>,
+    /// The field by which what stands in front says for which depositor it asks, as `X-Depositor`.
+    /// Where it is named, each request has it once, with a depositor as `QQ-ID`, and asks for what
+    /// is that depositor's alone, and hands in what that one sent: else it is 403. The list of
+    /// depositors is 403 then.
+    pub from: Option<&'n str>,
 }
 
 /// That of all partners.
 pub(crate) const OF_PARTNERS: Access<'static> = Access {
     audience: Audience::Partners,
     doors: None,
+    from: None,
 };

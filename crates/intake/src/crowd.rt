@@ -92,7 +92,7 @@ impl<'q, 'n, Q: Clock> Crowd<'q, 'n, Q> {
         alloc: Global,
         listener: TcpListener,
         access: Access<'n>,
-        count: u16,
+        count: u64,
         peers: Option<u16>,
         patience: &Patience<'q, Q>,
     ) -> io::Result<Crowd<'q, 'n, Q>> {

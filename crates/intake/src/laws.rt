@@ -1,14 +1,19 @@
 //! Laws of requests: nothing runs, a contract is the law.
-ghost use Rattle.std.specs.Prelude.{◌≡◌, ◌≢◌, ℕ, List, Option, Some, None, option_map};
+ghost use Rattle.std.specs.Prelude.{◌≡◌, ◌≢◌, ℕ, List, Option, Some, None, true, false, option_map};
 ghost use Rattle.httparse.specs.Grammar.{RequestHead};
 ghost use Rattle.profile.specs.Header.{Who};
 ghost use Rattle.profile.specs.Moments.{Moment};
-ghost use Rattle.profile.specs.Register.{Entry};
-ghost use Rattle.profile.specs.Response.{asked, Nowhere};
+ghost use Rattle.profile.specs.Register.{Command, Entry};
+ghost use Rattle.profile.specs.Response.{asked, bare, Nowhere};
+ghost use Rattle.intake.specs.Reaching.{may_reach};
+ghost use Rattle.doors.specs.Askers.{may_send};
 ghost use Rattle.intake.specs.Calls.{call_of};
 ghost use Rattle.intake.specs.Fields.{head_of};
 ghost use Rattle.intake.specs.Routes.{route_of};
-ghost use Rattle.intake.specs.Admitting.{answer_of, command_in};
+ghost use Rattle.intake.specs.Lines.{sender_in};
+ghost use Rattle.intake.specs.Targets.{target_of};
+ghost use Rattle.intake.specs.Admitting.{answer_for, answer_of, command_for, command_in};
+ghost use Rattle.doors.specs.declared.askers.Asker.{Asker};
 ghost use Rattle.intake.specs.Serving.{BeginsWith};
 ghost use Rattle.intake.specs.declared.audience.Audience.{Audience};
 ghost use Rattle.intake.specs.declared.audience.Audience.TheVariants.{Partners, Clerks};
@@ -43,4 +48,20 @@ pub fn the_routes_stay()
     ensures answers { (h : RequestHead) (rest : List ℕ) → route_of h.target ≢ Nowhere
         → (W : Who) (L : List Entry) (t : Moment)
         → answer_of Clerks W L (Some h) rest t ≡ answer_of Partners W L (Some h) rest t }
+{}
+
+/// Where what stands in front is to say for whom a request is asked, one that it says nothing of,
+/// or that asks by its path for what another depositor has, is 403, whatever it is, and submits
+/// nothing; and an interchange that is submitted was sent by no other depositor.
+pub fn others_are_turned_away()
+    ensures commands { (asker : Asker) (audience : Audience) (h : RequestHead) (rest : List ℕ)
+        → may_reach asker (target_of audience h.target) ≡ false
+        → command_for asker audience h rest ≡ None }
+    ensures answers { (asker : Asker) (audience : Audience) (h : RequestHead) (rest : List ℕ)
+        → may_reach asker (target_of audience h.target) ≡ false
+        → (W : Who) (L : List Entry) (t : Moment)
+        → answer_for asker audience W L h rest t ≡ bare 403 }
+    ensures senders { (asker : Asker) (audience : Audience) (h : RequestHead) (rest : List ℕ)
+        (c : Command) → command_for asker audience h rest ≡ Some c
+        → may_send asker (sender_in (Some c)) ≡ true }
 {}

@@ -13,6 +13,7 @@ mod listening;
 mod looking;
 mod patience;
 mod queries;
+mod reaching;
 mod reading;
 mod replies;
 mod responding;

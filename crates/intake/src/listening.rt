@@ -1,7 +1,7 @@
-ghost use Rattle.std.specs.Prelude.{◌≡◌, ◌⊎◌, ◌≤◌, ℕ, Some, None, true, false, OnOk, OnErr, IfOk, IfErr, IsErrOf};
+ghost use Rattle.std.specs.Prelude.{◌≡◌, ◌⊎◌, ◌≤◌, ℕ, Some, None, true, false, OnOk, OnErr, IfErr, IfSome, IsErrOf};
 ghost use Rattle.store.specs.Standing.{GoesOn};
 ghost use Rattle.intake.specs.Admitting.{of_partners};
-ghost use Rattle.intake.specs.Connections.{HasTold, IsConnection, IsNotAccepted, IsConnectionOutcome, IsServed, IsServedOn, IsServedOf};
+ghost use Rattle.intake.specs.Connections.{HasTold, address_of, IsConnection, IsNotAccepted, IsConnectionOutcome, IsServed, IsServedOn, IsServedOf};
 
 use crate::audience::{Access, OF_PARTNERS};
 use crate::callers::{Caller, Callers, OneByOne};
@@ -149,6 +149,8 @@ fn serve_next<K: Keeper, L: Callers, Q: Clock>(
     patience: &Patience<'_, Q>,
 ) -> Connection
     ensures moment { result.moment ≡ moment }
+    ensures peer { IfSome accepted (λ caller. result.peer ≡ Some (address_of caller)) }
+    ensures nobody { accepted ≡ None → result.peer ≡ None }
     ensures outcome { IsConnectionOutcome result }
     ensures served { IsConnection access.entry (K.standing keeper.old) (K.standing keeper.new)
         result }
@@ -189,7 +191,7 @@ pub fn serve_within<
 >(
     alloc: Global,
     callers: &mut L,
-    count: u16,
+    count: u64,
     keeper: &mut K,
     access: Access<'_>,
     mut clock: C,
@@ -262,7 +264,7 @@ pub fn serve_count<K: Keeper, C: FnMut() -> Moment, T: FnMut(Connection)>(
     serve_within(
         alloc,
         &mut OneByOne { listener },
-        count,
+        count as u64,
         keeper,
         OF_PARTNERS,
         clock,

@@ -1,16 +1,19 @@
 //! What a request is answered, and who sent the interchange that it hands in.
-ghost use Rattle.std.specs.Prelude.{◌≡◌, None};
+ghost use Rattle.std.specs.Prelude.{◌≡◌, ℕ, List, None, Ok};
+ghost use Rattle.profile.specs.Register.{Interchange};
 ghost use Rattle.profile.specs.Accepted.{depositor_of};
 ghost use Rattle.store.specs.Asked.{asked};
 ghost use Rattle.intake.specs.Answers.{seen};
 ghost use Rattle.intake.specs.Fields.{seen_method};
 ghost use Rattle.intake.specs.Lines.{sender_in};
-ghost use Rattle.intake.specs.Serving.{IsTargetServed};
-ghost use Rattle.intake.specs.Targets.{seen_target, target_command};
+ghost use Rattle.intake.specs.Reaching.{sent_for};
+ghost use Rattle.intake.specs.Serving.{IsAskedServed};
+ghost use Rattle.intake.specs.Targets.{command_with, seen_target, target_command};
 
 use crate::heading::MethodKind;
-use crate::response::Response;
+use crate::response::{Response, Status, bare_response};
 use crate::targets::{Target, hands_in, respond_to};
+use doors::{Asker, may_send};
 use std::alloc::Global;
 use store::{Command, Keeper, Moment, Who, subject};
 
@@ -44,25 +47,40 @@ fn named_in(command: &Command<'_>) -> Option<Who>
     Some(named.0)
 }
 
-/// Answers a request with this body whose target is found. A fault inside is answered 503, and is
-/// told in the response alone.
+// The depositor of the interchange that a request hands in, if it does and names one.
+fn sender_of(method: MethodKind, target: &Target<'_>, command: &Command<'_>) -> Option<Who>
+    ensures { (body : List ℕ) → asked command.now ≡ Interchange body → result
+        ≡ sender_in (target_command (seen_method method) (seen_target target.now) body) }
+{
+    if !hands_in(method, target) {
+        return None;
+    }
+    named_in(command)
+}
+
+/// Answers a request with this body whose target is found, and may be asked for; where its
+/// interchange may not be handed in for whom it is asked, it is 403. A fault inside is answered
+/// 503, and is told in the response alone.
 pub(crate) fn answer_at<K: Keeper>(
     alloc: Global,
     keeper: &mut K,
+    asker: &Asker,
     method: MethodKind,
     target: &Target<'_>,
     body: &[u8],
     moment: Moment,
 ) -> Replied
-    ensures served { IsTargetServed (K.standing keeper.old) (K.standing keeper.new) moment
-        (seen_method method) (seen_target target.now) body.now (seen result.response) }
-    ensures sender { result.sender
-        ≡ sender_in (target_command (seen_method method) (seen_target target.now) body.now) }
+    ensures served { let to = seen_target target.now in
+        IsAskedServed (K.standing keeper.old) (K.standing keeper.new) moment (seen_method method) to
+        (sent_for asker.now (seen_method method) to (Ok body.now)) (seen result.response) }
+    ensures sender { let to = seen_target target.now in
+        result.sender ≡ sender_in (command_with (seen_method method) to
+        (sent_for asker.now (seen_method method) to (Ok body.now))) }
 {
-    let response = respond_to(alloc, keeper, method, target, body, moment);
-    if !hands_in(method, target) {
-        return unsent(response);
+    let sender = sender_of(method, target, &Command::Interchange(body));
+    if !may_send(asker, &sender) {
+        return unsent(bare_response(Status::Forbidden));
     }
-    let sender = named_in(&Command::Interchange(body));
+    let response = respond_to(alloc, keeper, method, target, body, moment);
     Replied { response, sender }
 }

@@ -4,14 +4,15 @@ ghost use Rattle.httparse.specs.Spans.{IsRequestWithin, IsRequestAt};
 ghost use Rattle.profile.specs.Header.{Who as Partner};
 ghost use Rattle.store.specs.Standing.{IsUnchanged, GoesOn};
 ghost use Rattle.doors.specs.Doors.{status_of};
-ghost use Rattle.intake.specs.Admitting.{barred_at, of_partners};
+ghost use Rattle.intake.specs.Admitting.{asker_at, barred_at, of_partners};
 ghost use Rattle.intake.specs.Answers.{number, seen};
 ghost use Rattle.gauges.specs.Gauges.{Grew};
 ghost use Rattle.intake.specs.Lines.{IsLineAt, HasLine};
 ghost use Rattle.intake.specs.Serving.{IsExchange, IsExchangeAfter, IsResponseWritten, IsUnread, IsUnwritten};
 
-use crate::audience::{Access, Audience, OF_PARTNERS};
+use crate::audience::{Access, OF_PARTNERS};
 use crate::heading::{length_of, read_method};
+use crate::reaching::may_reach;
 use crate::reading::{Content, Unread, read_body, read_head};
 use crate::replies::of_fault;
 use crate::response::{Status, bare_response};
@@ -19,7 +20,7 @@ use crate::senders::{Replied, answer_at, unsent};
 use crate::served::{RequestLine, Served};
 use crate::targets::{find_target, has_body};
 use crate::texts::write_response;
-use doors::{Barred, Doors, judge_head};
+use doors::{Barred, Doors, asker_of, judge_head};
 use fields::{MOST_FIELDS, MOST_HEAD, is_among, values_of};
 use gauges::Gauge;
 use http::StatusCode;
@@ -33,7 +34,7 @@ fn answer<R: Read, K: Keeper>(
     alloc: Global,
     reader: &mut Gauge<R>,
     keeper: &mut K,
-    audience: Audience,
+    access: Access<'_>,
     got: &[u8],
     fields: &[HeaderSpan],
     spans: &RequestSpans,
@@ -43,8 +44,8 @@ fn answer<R: Read, K: Keeper>(
 
     ensures answered { IfOk result
         (λ replied. (h : RequestHead) → IsRequestAt got.now fields.now spans.now h
-        → IsExchangeAfter audience (K.standing keeper.old) (K.standing keeper.new)
-        (R.remaining reader.old.inner)
+        → IsExchangeAfter (asker_at access.entry h) access.entry.audience
+        (K.standing keeper.old) (K.standing keeper.new) (R.remaining reader.old.inner)
         moment h (drop spans.now.len got.now) (seen replied.response) replied.sender) }
     ensures same { OnErr result (IsUnchanged (K.standing keeper.old) (K.standing keeper.new)) }
     ensures count { OnErr result (Grew reader.old.errors reader.new.errors) }
@@ -52,15 +53,19 @@ fn answer<R: Read, K: Keeper>(
     ensures goes { GoesOn (K.standing keeper.old) (K.standing keeper.new) }
 {
     let named = &fields[..spans.headers];
+    let Ok(target) = find_target(alloc, access.audience, spans.path.of(got)) else {
+        return Ok(unsent(of_fault(Fault::OutOfMemory)));
+    };
+    let asker = asker_of(access.from, got, named);
+    if !may_reach(&asker, &target) {
+        return Ok(unsent(bare_response(Status::Forbidden)));
+    }
     if is_among(got, named, b"Transfer-Encoding") {
         return Ok(unsent(bare_response(Status::NotImplemented)));
     }
-    let Ok(target) = find_target(alloc, audience, spans.path.of(got)) else {
-        return Ok(unsent(of_fault(Fault::OutOfMemory)));
-    };
     let method = read_method(spans.method.of(got));
     if !has_body(method, &target) {
-        return Ok(answer_at(alloc, keeper, method, &target, &[], moment));
+        return Ok(answer_at(alloc, keeper, &asker, method, &target, &[], moment));
     }
     let size = match length_of(&values_of(got, named, b"Content-Length")) {
         Ok(size) => size,
@@ -70,6 +75,7 @@ fn answer<R: Read, K: Keeper>(
         Content::Whole(body) => Ok(answer_at(
             alloc,
             keeper,
+            &asker,
             method,
             &target,
             body.as_slice(),
@@ -176,16 +182,7 @@ fn receive<R: Read, K: Keeper>(
             line: copied_line(alloc, got, &fields, spans),
         };
     }
-    let replied = answer(
-        alloc,
-        reader,
-        keeper,
-        access.audience,
-        got,
-        &fields,
-        spans,
-        moment,
-    );
+    let replied = answer(alloc, reader, keeper, access, got, &fields, spans, moment);
     let line = copied_line(alloc, got, &fields, spans);
     Received { replied, line }
 }
@@ -193,13 +190,14 @@ fn receive<R: Read, K: Keeper>(
 /// Reads one request, writes its response, and tells what became of them. The tests of a request
 /// come in this order: a head that is refused, cut off or too large, over 8,192 bytes or 32 fields,
 /// is 400; one that the doors turn away 400, 421 or 403 (`judge_head`), and nothing is asked of the
-/// book; a Transfer-Encoding field 501; no route 404; another method 405; for an interchange no
-/// Content-Length 411, more than one, an empty one or not all digits 400, above 1,048,576 413, and
-/// a body that is cut off 400. Where clerks are served too, a deed with its sheet is tested as an
-/// interchange, and then: a part of its path that can't be read is 404, a text that is no sheet
-/// 422. A growth that is refused gives the 503 of 40; where only the copy of the method and the
-/// path is, these aren't told, and the answer is the same. Of an interchange that is handed in, its
-/// sender is told, also where it is refused.
+/// book; one that may not be asked for by its path 403 (`Access`); a Transfer-Encoding field 501;
+/// no route 404; another method 405; for an interchange no Content-Length 411, more than one, an
+/// empty one or not all digits 400, above 1,048,576 413, a body that is cut off 400, and one that
+/// another depositor sent 403 (`Access`). Where clerks are served too, a deed with its sheet is
+/// tested as an interchange, and then: a part of its path that can't be read is 404, a text that is
+/// no sheet 422. A growth that is refused gives the 503 of 40; where only the copy of the method
+/// and the path is, these aren't told, and the answer is the same. Of an interchange that is handed
+/// in, its sender is told, also where it is refused.
 ///
 /// The one fault is Device (44): the reader or the writer gave an error, or took 0 bytes. Where the
 /// reader did, nothing was written and the book is as it was; where the writer did, a beginning of

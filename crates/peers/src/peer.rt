@@ -213,7 +213,11 @@ impl<T: Stream> Peer<T> {
     }
 
     // Its time is over.
-    fn give_up(&mut self, now: Duration) {
+    fn give_up(&mut self, now: Duration)
+        ensures came { self.old.phase ≡ Phase.Arriving
+            → self.new.phase ≡ Phase.Waiting End.Broken }
+        ensures left { self.old.phase ≡ Phase.Leaving → self.new.phase ≡ Phase.Lost }
+    {
         match self.phase {
             Phase::Arriving => self.enter(Phase::Waiting(End::Broken), now),
             Phase::Leaving => self.phase = Phase::Lost,
@@ -286,14 +290,25 @@ impl<T: Stream> Peer<T> {
     }
 
     /// Does what it can do now without waiting. A long request isn't read on where there is no room
-    /// for more of it.
+    /// for more of it. Unless it breaks off, what came of its request grows by what its own stream
+    /// gave; unless it is lost, none of its response is left out and none leaves twice.
+    #[tactic(auto, using(crate::proofs::Same::gains_nothing, crate::proofs::Same::keeps_same))]
     pub(crate) fn advance<F: Framing>(
         &mut self,
         framing: &F,
         has_room: bool,
         patience: Duration,
         now: Duration,
-    ) {
+    )
+        ensures came { self.old.phase ≡ Phase.Arriving
+            → self.new.phase ≢ Phase.Waiting End.Broken
+            → Gains (T.remaining self.old.stream) (T.remaining self.new.stream)
+            self.old.bytes.items self.new.bytes.items }
+        ensures left { self.old.phase ≡ Phase.Leaving → self.new.phase ≢ Phase.Lost → Keeps
+            (append_known (T.contents self.old.stream) (drop self.old.passed self.old.bytes.items))
+            (append_known (T.contents self.new.stream)
+            (drop self.new.passed self.new.bytes.items)) }
+    {
         if let Some(limit) = self.limit(patience) {
             if limit <= now.saturating_sub(self.since) {
                 return self.give_up(now);

@@ -1,5 +1,5 @@
 //! The connections that are there at once, each at a place of its own.
-ghost use Rattle.std.specs.Prelude.{◌≡◌};
+ghost use Rattle.std.specs.Prelude.{◌≡◌, []};
 
 use crate::gathered::{End, Gathered};
 use crate::peer::{Framing, Peer, Phase};
@@ -25,7 +25,7 @@ const PAUSE_MILLIS: u64 = 20;
 #[derive(Clone, Copy)]
 pub struct Limits {
     /// How many connections are accepted in all.
-    pub count: u16,
+    pub count: u64,
     /// How many are there at once.
     pub peers: u16,
     /// How many bytes of all requests are held at once, from which on no long one is read on; and
@@ -59,7 +59,9 @@ impl Arrival {
     }
 
     /// What its response is written to.
-    pub fn writer(&self, alloc: Global) -> Sending<&TcpStream> {
+    pub fn writer(&self, alloc: Global) -> Sending<&TcpStream>
+        ensures none { result.kept.items ≡ [] }
+    {
         Sending::new(alloc, self.peer.stream())
     }
 }

@@ -43,6 +43,7 @@ module _ {S : Type 0} (store : Ghosts S) (database : Held S) where
   begun_old (job.Look asked) t b not same ok = of_file t b same ok
   begun_old (job.Play text) t b not same ok = of_file t b same ok
   begun_old (job.Listen service first has_clock file) t b not same ok = of_file t b same ok
+  begun_old (job.Seal first) t b not same ok = of_file t b same ok
   begun_old job.Check t b not same ok = of_file t b same ok
 
   -- what is handed back where there is none
@@ -53,6 +54,7 @@ module _ {S : Type 0} (store : Ghosts S) (database : Held S) where
   none_old (job.Look asked) t back left f not same last why = record { tables = t; handed = back; before = same; after = last; why = why }
   none_old (job.Play text) t back left f not same last why = record { tables = t; handed = back; before = same; after = last; why = why }
   none_old (job.Listen service first has_clock file) t back left f not same last why = record { tables = t; handed = back; before = same; after = last; why = why }
+  none_old (job.Seal first) t back left f not same last why = record { tables = t; handed = back; before = same; after = last; why = why }
   none_old job.Check t back left f not same last why = record { tables = t; handed = back; before = same; after = last; why = why }
 
   -- why none was made in a database that held nothing

@@ -56,6 +56,7 @@ module _ {D W : Type 0} (disk : Disks D) (contents : W → Option (List ℕ)) (i
   untouched_never (job.Look asked) ending h = never_untouched (job.Look asked) ending h
   untouched_never (job.Play text) ending h = never_untouched (job.Play text) ending h
   untouched_never (job.Listen service first has_clock file) ending h = never_untouched (job.Listen service first has_clock file) ending h
+  untouched_never (job.Seal first) ending h = never_untouched (job.Seal first) ending h
   untouched_never job.Check ending h = h
 
 module _ {D W : Type 0} {disk : Disks D} (contents : W → Option (List ℕ)) (image : Image) where
@@ -67,6 +68,7 @@ module _ {D W : Type 0} {disk : Disks D} (contents : W → Option (List ℕ)) (i
   job_ends (job.Look asked) before later ending files other h = h
   job_ends (job.Play text) before later ending files other h = h
   job_ends (job.Listen service first has_clock file) before later ending files other h = h
+  job_ends (job.Seal first) before later ending files other h = h
   job_ends job.Check before later ending files other h = absurd (other refl)
 
   printed_nothing : (j : Job) (before later : W) (ending : Ending) (error : _) (leftover : _) → IsRunEnd {disk = disk} contents image j before later ending (left.Unopened error leftover) → later ≡ before
@@ -75,6 +77,7 @@ module _ {D W : Type 0} {disk : Disks D} (contents : W → Option (List ℕ)) (i
   printed_nothing (job.Look asked) before later ending e l h = unopened_prints_nothing contents image (job.Look asked) before later ending e l h
   printed_nothing (job.Play text) before later ending e l h = unopened_prints_nothing contents image (job.Play text) before later ending e l h
   printed_nothing (job.Listen service first has_clock file) before later ending e l h = unopened_prints_nothing contents image (job.Listen service first has_clock file) before later ending e l h
+  printed_nothing (job.Seal first) before later ending e l h = unopened_prints_nothing contents image (job.Seal first) before later ending e l h
   printed_nothing job.Check before later ending e l h = h
 
   -- where the files are in use, nothing is printed

@@ -39,6 +39,7 @@ module _ {S W : Type 0} (store : Ghosts S) (contents : W → Option (List ℕ)) 
       → doubt (state store old.tables.conn).is_clean ≤ doubt (state store new.tables.conn).is_clean
   work_goes (job.Change ready moment) old new before later ending h = h.0.doubt
   work_goes (job.Look asked) old new before later ending h = let same = h.same in let goes = same.goes in goes.doubt
+  work_goes (job.Seal first) old new before later ending h = let same = h.same in let goes = same.goes in goes.doubt
   work_goes (job.Play text) old new before later ending h = h.0.doubt
   work_goes (job.Listen service first has_clock file) old new before later ending h = h.0.doubt
   work_goes (job.Make house) old new before later ending h = subst (λ (b : Opened S). doubt (state store old.tables.conn).is_clean ≤ doubt (state store b.tables.conn).is_clean) (sym h.0) (omega arith)
@@ -51,6 +52,7 @@ module _ {S W : Type 0} (store : Ghosts S) (contents : W → Option (List ℕ)) 
   of_file (job.Look asked) database b of h = h
   of_file (job.Play text) database b of h = h
   of_file (job.Listen service first has_clock file) database b of h = h
+  of_file (job.Seal first) database b of h = h
   of_file job.Check database b of h = h
 
   not_opened : (j : Job) (database left : Held S) (f : _) → IsOfBook j → IsNotBegun store database left j f → IsNotOpened store database left f
@@ -59,6 +61,7 @@ module _ {S W : Type 0} (store : Ghosts S) (contents : W → Option (List ℕ)) 
   not_opened (job.Look asked) database left f of h = h
   not_opened (job.Play text) database left f of h = h
   not_opened (job.Listen service first has_clock file) database left f of h = h
+  not_opened (job.Seal first) database left f of h = h
   not_opened job.Check database left f of h = h
 
   module _ (image : Image) (database left : Held S) (opens : HasCleanDisk (state store database) → Opens (state store database) × IsLive (state store database))

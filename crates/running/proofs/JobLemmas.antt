@@ -16,6 +16,7 @@ job_any reads (task.Act a at) (job.Change ready moment) h = (made_any reads a re
 job_any reads (task.Show s) (job.Look asked) h = h
 job_any reads (task.Batch file) (job.Play text) h = record { read = tt; within = h.within }
 job_any reads task.Verify job.Check h = h
+job_any reads (task.Seal text) (job.Seal first) h = h
 job_any reads (task.Serve s at) (job.Listen service first has_clock file) h = h
 job_any reads t j h = absurd h
 

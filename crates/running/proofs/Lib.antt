@@ -11,3 +11,4 @@ mod DaysLemmas
 mod EndLemmas
 mod RerunLemmas
 mod JobLemmas
+mod CheckingLemmas

@@ -65,6 +65,7 @@ handed_in store contents (job.Change (ready.Clerk slip) m) c t is old new before
 handed_in store contents (job.Look asked) c t is old new before later ending w = absurd (cc)
 handed_in store contents (job.Play text) c t is old new before later ending w = absurd (cc)
 handed_in store contents (job.Listen service first has_clock file) c t is old new before later ending w = absurd (cc)
+handed_in store contents (job.Seal first) c t is old new before later ending w = absurd (cc)
 handed_in store contents job.Check c t is old new before later ending w = absurd (cc)
 
 module _ {D : Type 0} {disk : Disks D} (left : Held (FileStore D disk)) (it : FileStore D disk) (go : IsLetGo left it) (clean : IsClean (files.view it)) (then : Image) (may : MayHold it then) where

@@ -3,10 +3,11 @@ use Rattle.std.specs.Prelude.{◌≡◌, ℕ, List, [], ◌∷◌, ◌++◌, Opt
 use Rattle.std.specs.Io.KnownBytes.{Appends}
 use Rattle.profile.specs.Header.{Who}
 use Rattle.sqlite.specs.Effect.{Database, IsDatabase}
-use Rattle.sqlite.specs.State.{State}
+use Rattle.sqlite.specs.State.{State, HasCleanDisk}
+use Rattle.sqlite.specs.Tree.{Trees}
 use Rattle.store.specs.Standing.{Standing, IsUnchanged, OfAnyKept}
 use Rattle.book_statements.specs.Asking.{IsOfFirst}
-use Rattle.book_tables.specs.Comparing.{AreTables}
+use Rattle.book_tables.specs.Comparing.{AreTables, IsLaid}
 use Rattle.book_statements.specs.Layout.{IsLayout}
 use Rattle.books.specs.Verified.{StandsForMany}
 use Rattle.commands.specs.Acting.{Ending}
@@ -45,3 +46,35 @@ pub record IsFoundWhole (file : State) (before later : Option (List ℕ)) : Type
   pub sound : IsDatabase read
   pub trees : read.trees ≡ (let db = file.committed in db.trees)
   pub told : IsLayout read.schema → (IsOfFirst read → ⊥) → TellsWhole read before later
+
+-- what was committed last
+abbrev pub committed_trees : State → Trees
+committed_trees s = let db = s.committed in db.trees
+
+-- what was committed, read anew, is of version 1
+abbrev pub WasFirst : State → Type 0
+WasFirst s = (read : Database) × IsDatabase read × (read.trees ≡ committed_trees s)
+    × IsOfFirst read
+
+-- What a check leaves of a database, whatever this holds, if no answer of the disk was wrong: what
+-- was committed is so still, and a crash leaves no more than before. A book of version 1 is carried
+-- over first.
+pub record StaysCommitted (old new : State) : Type 0 where
+  pub committed : HasCleanDisk new → (WasFirst old → ⊥) → IsTrue new.is_open
+      → committed_trees new ≡ committed_trees old
+  pub no_more : HasCleanDisk new → (WasFirst old → ⊥) → (db : Trees) → new.may_leave db
+      → old.may_leave db
+
+-- Tables were read anew, and since then no more than read: they are a database, which is what was
+-- committed last, and their rows rise by their rowids where it is laid out as a book.
+pub record AreReadThrough (s : State) : Type 0 where
+  pub sound : IsTrue s.is_open → IsDatabase s.now
+  pub rest : IsTrue s.is_open → s.now ≡ s.committed
+  pub rows : IsLaid s → IsTrue s.is_open → AreTables s.now
+
+-- What is committed to a database is one with the schema that it lists; and where this is a book's,
+-- it stands for a register of so many entries as are printed.
+pub record IsWholeNow (s : State) (before later : Option (List ℕ)) : Type 0 where
+  pub sound : IsTrue s.is_open → IsDatabase s.committed
+  pub told : IsTrue s.is_open → IsLayout (let db = s.committed in db.schema)
+      → TellsWhole s.committed before later

@@ -1,12 +1,24 @@
 -- Why a book in a database wasn't found whole.
-use Rattle.std.specs.Prelude.{◌⊎◌}
-use Rattle.sqlite.specs.Held.{Held}
+use Rattle.std.specs.Prelude.{◌≡◌, ◌⊎◌, ◌<◌, ◌≤◌, List, Some, IsTrue}
+use Rattle.sqlite.specs.Held.{Held, state}
+use Rattle.sqlite.specs.State.{HasCleanDisk}
 use Rattle.sqlite.specs.Store.{Ghosts}
+use Rattle.sqlite.specs.Tree.{Trees}
+use Rattle.sqlite_trees.specs.View.{IsClean, doubt}
+use Rattle.profile.specs.declared.rules.Rules.{Rules}
+use Rattle.profile.specs.Header.{Who}
+use Rattle.profile.specs.Register.{Entry}
+use Rattle.store.specs.Fault.TheVariants.{NotThisBook}
+use Rattle.book_statements.specs.Asking.{IsOfFirst}
+use Rattle.book_statements.specs.Carrying.{StandsInAs}
+use Rattle.book_statements.specs.Kept.{Kept}
 use Rattle.books.specs.Opened.{Opened, standing_of}
-use Rattle.commands.specs.Stops.{IsReasonStopped}
+use Rattle.books.specs.Opening.{OfRegister}
+use Rattle.commands.specs.Stops.{IsReasonStopped, fault_in}
 use Rattle.commands.specs.declared.told.CommandError.{CommandError}
+use Rattle.running.specs.Checking.{WasFirst, committed_trees}
 use Rattle.running.specs.Faults.{IsReadFault}
-use Rattle.running.specs.Opening.{IsOpenedAnew}
+use Rattle.running.specs.Opening.{IsBookOf, IsOpenedAnew}
 
 -- Its tables were read anew, and then a query failed, a table isn't what the register gives, or
 -- what was found couldn't be told.
@@ -20,3 +32,38 @@ pub record IsUnfound
 -- they couldn't be read anew, or give no book; or it wasn't found whole
 abbrev pub IsUnchecked : {S : Type 0} → Ghosts S → Held S → CommandError → Type 0
 IsUnchecked store database stop = IsReadFault stop ⊎ IsUnfound store database stop
+
+-- what is so of each register that what was committed to a database stands for, in either version
+abbrev pub OfCommitted : {S : Type 0} → Ghosts S → Held S → (Who → List Entry → Type 0) → Type 0
+OfCommitted store database P = (q : Rules) (W : Who) (L : List Entry)
+    → StandsInAs q W L (committed_trees (state store database)) → P W L
+
+-- the book that was opened of what was committed is that of the warehouse and the register for
+-- which this stands, where no answer of the disk was wrong
+abbrev pub IsOfCommitted : {S : Type 0} → Ghosts S → Held S → Opened S → Type 0
+IsOfCommitted store database book = HasCleanDisk (state store book.tables.conn)
+    → OfCommitted store database (IsBookOf store book)
+
+-- What is left of the store of a database in which no book was found whole. That it isn't this
+-- book (43) is told only where what was committed stands for no register of a warehouse, or the disk
+-- told of a fault; and a crash leaves no more than before, whatever was committed, but for a book of
+-- version 1, which is carried over first. Both if no answer of the disk was wrong.
+pub record IsLeftUnchecked
+    {S : Type 0} (store : Ghosts S) (database : Held S) (stop : CommandError) : Type 0 where
+  pub left : S
+  pub clean : doubt (state store database).is_clean ≤ doubt (store.view left).is_clean
+  pub not_this : IsClean (store.view left) → fault_in stop ≡ Some NotThisBook
+      → OfCommitted store database (λ _ _. 0 < store.faults left)
+  pub no_more : IsClean (store.view left) → (WasFirst (state store database) → ⊥) → (db : Trees)
+      → store.recovers left db → (state store database).may_leave db
+
+-- The same of tables that were read anew, and that were to be carried over and read anew again.
+pub record IsLeftCarrying
+    {S : Type 0} (store : Ghosts S) (tables : Kept S) (stop : CommandError) : Type 0 where
+  pub left : S
+  pub clean : doubt (state store tables.conn).is_clean ≤ doubt (store.view left).is_clean
+  pub not_this : IsClean (store.view left) → fault_in stop ≡ Some NotThisBook
+      → OfRegister store tables (λ _ _. 0 < store.faults left)
+  pub no_more : IsClean (store.view left)
+      → (IsTrue (state store tables.conn).is_open → IsOfFirst (state store tables.conn).now → ⊥)
+      → (db : Trees) → store.recovers left db → (state store tables.conn).may_leave db

@@ -1,6 +1,6 @@
 -- Which job over a book in a file a line asks for, and what the job comes to (Checking: that of a
 -- check; Done: with the opening before it).
-use Rattle.std.specs.Prelude.{◌≡◌, ℕ, Bool, true, false, List, Option, Some, None, Ok, IfSome, IfOk, IfErr, OnOk, OnErr, string_bytes}
+use Rattle.std.specs.Prelude.{◌≡◌, ℕ, Bool, true, false, List, Option, Some, None, Ok, option_map, IfSome, IfOk, IfErr, OnOk, OnErr, string_bytes}
 use Rattle.profile.specs.Header.{who_of}
 use Rattle.profile.specs.Moments.{Moment}
 use Rattle.store.specs.Refusal.{Refusal}
@@ -11,7 +11,9 @@ use Rattle.commands.specs.Files.{IsWithin, Reads}
 use Rattle.commands.specs.Looking.{IsAskedFor, IsLook, is_readable}
 use Rattle.commands.specs.Playing.{HasPlayed, HasStopped, asking}
 use Rattle.commands.specs.Readying.{IsMadeReady, IsUnready}
-use Rattle.commands.specs.Serving.{HasServed, HasServedUpTo, access_of}
+use Rattle.commands.specs.Shown.{IsLookAt, shown_seal}
+use Rattle.seals.specs.Noted.{entries_in}
+use Rattle.commands.specs.Serving.{HasServed, HasServedUpTo, access_of, count_of}
 use Rattle.commands.specs.declared.files.TheConstants.{MOST_SCRIPT}
 use Rattle.commands.specs.declared.told.ExitStatus.TheVariants.{Done}
 use Rattle.running.specs.declared.over_file.Job.{Job}
@@ -34,6 +36,8 @@ IsJobFor reads (task.Show s) (job.Look asked) = IsAskedFor s asked
 IsJobFor reads (task.Batch file) (job.Play text) =
     IsWithin reads file.now MOST_SCRIPT (string_bytes text)
 IsJobFor reads task.Verify job.Check = Unit {0}
+IsJobFor reads (task.Seal text) (job.Seal first) =
+    option_map (λ t. entries_in t.now) text ≡ option_map (λ n. Some n) first
 IsJobFor reads (task.Serve s at) (job.Listen service first has_clock file) =
     (service ≡ s) × IfSome at (λ t. first ≡ t) × (has_clock ≡ says_none at)
 IsJobFor reads t j = ⊥
@@ -60,9 +64,11 @@ abbrev pub IsService : {K : Type 0} → (K → Standing) → Service → Moment 
     → Type 0
 IsService standing service first has_clock old new ending =
     OnOk ending
-    (HasServed standing (access_of service) has_clock first old new service.count)
+    (HasServed standing (access_of service) has_clock first old new
+    (count_of service.count))
     × OnErr ending
-    (HasServedUpTo standing (access_of service) has_clock first old new service.count)
+    (HasServedUpTo standing (access_of service) has_clock first old new
+    (count_of service.count))
 
 -- What a job comes to over a book: what was made ready was done at its moment, what was asked for
 -- was shown, a text was played, a server served. Where the job is to make the book or to check it,
@@ -75,6 +81,9 @@ IsWork standing contents old before (job.Change ready moment) new later ending =
     ending
 IsWork standing contents old before (job.Look asked) new later ending =
     IsLook (standing old) (standing new) asked (contents before) (contents later) ending
+IsWork standing contents old before (job.Seal first) new later ending =
+    IsLookAt (standing old) (standing new) (shown_seal first) (contents before) (contents later)
+    ending
 IsWork standing contents old before (job.Play text) new later ending =
     GoesOn (standing old) (standing new)
     × IsBatchPlayed standing contents (string_bytes text) old before new later ending

@@ -1,17 +1,21 @@
 //! A book in a database checked whole: its tables are read anew, and compared with what its
 //! register gives.
-ghost use Rattle.std.specs.Prelude.{◌≡◌, ◌≤◌, false, IfErr, IfOk, IsTrue};
+ghost use Rattle.std.specs.Io.KnownBytes.{Appends};
+ghost use Rattle.std.specs.Prelude.{◌≡◌, ◌≤◌, false, IfErr, IfOk, IsTrue, length};
 ghost use Rattle.sqlite.specs.Held.{state};
 ghost use Rattle.sqlite.specs.State.{HasCleanDisk};
+ghost use Rattle.sqlite.specs.Tree.{Trees};
 ghost use Rattle.sqlite_trees.specs.View.{doubt};
 ghost use Rattle.store.specs.Standing.{IsQuery};
+ghost use Rattle.book_statements.specs.Asking.{IsOfFirst};
 ghost use Rattle.books.specs.Opened.{standing_of};
-ghost use Rattle.books.specs.Verified.{CountsKept, OfTables, StandsChecked};
+ghost use Rattle.books.specs.Opening.{OfRegister};
+ghost use Rattle.books.specs.Verified.{CountsKept, IsOnlyRead, OfTables, StandsChecked};
 ghost use Rattle.commands.specs.Stops.{IsReasonStopped};
-ghost use Rattle.running.specs.Checking.{IsChecked, IsFoundWhole, TellsWhole};
-ghost use Rattle.running.specs.Unchecked.{IsUnchecked};
+ghost use Rattle.running.specs.Checking.{AreReadThrough, IsChecked, IsFoundWhole, IsWholeNow, StaysCommitted, TellsWhole, told_whole};
+ghost use Rattle.running.specs.Unchecked.{IsLeftCarrying, IsLeftUnchecked, IsOfCommitted, IsUnchecked, OfCommitted};
 ghost use Rattle.running.specs.Faults.{IsReadFault};
-ghost use Rattle.running.specs.Opening.{IsOpenedAnew};
+ghost use Rattle.running.specs.Opening.{IsBookOf, IsOpenedAnew};
 
 use crate::book_files::{close, fault};
 use crate::over_file::open_watched;
@@ -21,6 +25,42 @@ use sqlite::{Alter, Connection};
 use std::alloc::Global;
 use std::io;
 use store::Fault;
+
+// Opens the book that tables hold which were read anew and are of no book of version 2: one of
+// version 1 is carried over, and its tables are read anew once more.
+fn carried<S: Alter + Drop, E: io::Write>(
+    alloc: Global,
+    tables: Tables<S>,
+    verbosity: Verbosity,
+    err: &mut E,
+) -> Result<Book<S>, CommandError>
+    ensures opened { IfOk result (λ b. b.shut ≡ false) }
+    ensures through { IfOk result (λ b. HasCleanDisk (state S.Store b.tables.conn)
+        → AreReadThrough (state S.Store b.tables.conn)) }
+    ensures clean { IfOk result (λ b. doubt (state S.Store tables.conn).is_clean
+        ≤ doubt (state S.Store b.tables.conn).is_clean) }
+    ensures named { IfErr result IsReadFault }
+    ensures stood { IfOk result (λ b. HasCleanDisk (state S.Store b.tables.conn)
+        → OfRegister S.Store tables (IsBookOf S.Store b)) }
+    ensures no_more { IfOk result (λ b. HasCleanDisk (state S.Store b.tables.conn)
+        → (IsTrue (state S.Store tables.conn).is_open → IsOfFirst (state S.Store tables.conn).now
+        → ⊥) → (db : Trees) → (state S.Store b.tables.conn).may_leave db
+        → (state S.Store tables.conn).may_leave db) }
+    ensures left { IfErr result (IsLeftCarrying S.Store tables) }
+{
+    let book = match open_watched(alloc, tables, verbosity, err) {
+        Ok(book) => book,
+        Err((fault, _)) => return Err(CommandError::Fault(fault)),
+    };
+    let again = match book.close().reopened(alloc) {
+        Ok(again) => again,
+        Err((failed, _)) => return Err(CommandError::Fault(fault(&failed))),
+    };
+    match Book::open_second(alloc, again) {
+        Ok(book) => Ok(book),
+        Err((fault, _)) => Err(CommandError::Fault(fault)),
+    }
+}
 
 // Opens the book in a database that is in no transaction, to check it whole: its tables are read
 // and tested against their schema anew first, so that all that `Book::verify` asks of them is
@@ -38,13 +78,20 @@ fn open_anew<S: Alter + Drop, E: io::Write>(
     ensures clean { IfOk result (λ b. doubt (state S.Store database).is_clean
         ≤ doubt (state S.Store b.tables.conn).is_clean) }
     ensures named { IfErr result IsReadFault }
+    ensures through { IfOk result (λ b. HasCleanDisk (state S.Store b.tables.conn)
+        → AreReadThrough (state S.Store b.tables.conn)) }
+    ensures stood { IfOk result (IsOfCommitted S.Store database) }
+    ensures unchanged { IfOk result
+        (λ b. StaysCommitted (state S.Store database) (state S.Store b.tables.conn)) }
+    ensures left { IfErr result (IsLeftUnchecked S.Store database) }
 {
     let tables = match Tables::new(database).reopened(alloc) {
         Ok(tables) => tables,
         Err((error, _)) => return Err(CommandError::Fault(fault(&error))),
     };
-    match open_watched(alloc, tables, verbosity, err) {
+    match Book::open_second(alloc, tables) {
         Ok(book) => Ok(book),
+        Err((Fault::NotThisBook, tables)) => carried(alloc, tables, verbosity, err),
         Err((fault, _)) => Err(CommandError::Fault(fault)),
     }
 }
@@ -58,6 +105,7 @@ fn watched<S: Alter + Drop, E: io::Write>(
     ensures stands { StandsChecked S.Store book.old book.new result }
     ensures whole { CountsKept S.Store book.old book.new result }
     ensures query { IsQuery (standing_of S.Store book.old) (standing_of S.Store book.new) result }
+    ensures unchanged { IsOnlyRead S.Store book.old book.new }
 {
     if !verbosity.watches {
         return book.verify();
@@ -86,6 +134,7 @@ fn check<S: Alter + Drop, W: io::Write, E: io::Write>(
         (IfOk result (λ _. IsTrue (state S.Store book.old.tables.conn).is_open
         × TellsWhole (state S.Store book.old.tables.conn).now (W.contents out.old)
         (W.contents out.new))) }
+    ensures unchanged { IsOnlyRead S.Store book.old book.new }
 {
     let entries = watched(book, verbosity, err)?;
     write!(out, "ok {entries}\n")?;
@@ -93,8 +142,9 @@ fn check<S: Alter + Drop, W: io::Write, E: io::Write>(
 }
 
 /// Reads the tables of the book in a database anew, says how many entries it has where every table
-/// is what its register gives, and closes it. NotThisBook (43) where one isn't, or the tables are
-/// no book; the other faults are those of an opening, which `open_anew` tells, and of a query.
+/// is what its register gives, and closes it. Nothing is written, but that a book of version 1 is
+/// carried over. NotThisBook (43) where a table isn't, or the tables are no book; the other faults
+/// are those of an opening, which `open_anew` tells, and of a query.
 pub(crate) fn check_over<S: Alter + Drop, W: io::Write, E: io::Write>(
     alloc: Global,
     database: Connection<S>,
@@ -109,6 +159,14 @@ pub(crate) fn check_over<S: Alter + Drop, W: io::Write, E: io::Write>(
     ensures clean { IfOk result (λ r. doubt (state S.Store database).is_clean
         ≤ doubt (state S.Store r.1).is_clean) }
     ensures stopped { IfErr result (IsUnchecked S.Store database) }
+    ensures now { IfOk result (λ r. HasCleanDisk (state S.Store r.1)
+        → IsWholeNow (state S.Store r.1) (W.contents out.old) (W.contents out.new)) }
+    ensures counted { IfOk result (λ r. HasCleanDisk (state S.Store r.1)
+        → OfCommitted S.Store database (λ _ L. Appends (W.contents out.old) (W.contents out.new)
+        (told_whole (length L)))) }
+    ensures unchanged { IfOk result
+        (λ r. StaysCommitted (state S.Store database) (state S.Store r.1)) }
+    ensures left { IfErr result (IsLeftUnchecked S.Store database) }
 {
     let mut book = open_anew(alloc, database, verbosity, err)?;
     match check(&mut book, verbosity, out, err) {

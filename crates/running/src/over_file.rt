@@ -1,6 +1,7 @@
 //! What a line says, made ready before the book is opened (words are tested and files read), and
 //! what is made ready, done over the book in a database.
-ghost use Rattle.std.specs.Prelude.{◌≡◌, false, IfErr, IfOk};
+ghost use Rattle.std.specs.Prelude.{◌≡◌, false, Some, IfErr, IfOk, option_map};
+ghost use Rattle.seals.specs.Noted as meant;
 ghost use Rattle.store.specs.Standing.{IsUnchanged};
 ghost use Rattle.books.specs.Opening.{IsHandedBack, IsOpened};
 ghost use Rattle.running.specs.Done.{IsBegun, IsJobDone, IsJobStopped, IsNotBegun};
@@ -12,9 +13,10 @@ use command_line::{Service, Task};
 use commands::{
     CommandError, ExitStatus, FileNames, Look, Ready, ServedFile, TimeSource, Verbosity,
     about_missing, ask, moment_for, perform, play_over, read_lines, ready_at, serve, show,
-    tell_reason,
+    tell_reason, tell_seal, usage,
 };
 use folders::FileSystem;
+use seals::{Sealed, entries_in};
 use sqlite::{Alter, Connection};
 use std::alloc::Global;
 use std::io;
@@ -34,12 +36,14 @@ pub enum Job<'a> {
     /// Serve it over HTTP, from a first moment on, and by the clock or not, while its name leads to
     /// this file.
     Listen(Service<'a>, Moment, bool, ServedFile<'a>),
+    /// Tell its seal: of so many entries, the first ones, or of all.
+    Seal(Option<u64>),
     /// Compare every table with what the register gives.
     Check,
 }
 
 // Does a job over a book; what is to be made is made by then.
-fn work<K: Keeper, W: io::Write, E: io::Write>(
+fn work<K: Sealed, W: io::Write, E: io::Write>(
     rt: &HostRuntime,
     book: &mut K,
     job: &Job<'_>,
@@ -47,12 +51,14 @@ fn work<K: Keeper, W: io::Write, E: io::Write>(
     out: &mut W,
     err: &mut E,
 ) -> Result<ExitStatus, CommandError>
-    ensures worked { IsWork K.standing W.contents book.old out.old job.now book.new out.new result }
+    ensures worked { IsWork K.Keeper.standing W.contents book.old out.old job.now
+        book.new out.new result }
 {
     match job {
         Job::Make(_) | Job::Check => Ok(ExitStatus::Done),
         Job::Change(ready, moment) => perform(rt, book, ready, *moment, verbosity, out, err),
         Job::Look(asked) => show(rt.alloc(), book, asked, out, err),
+        Job::Seal(first) => tell_seal(rt.alloc(), book, *first, out, err),
         Job::Play(text) => play_over(rt, book, text, verbosity, out, err),
         Job::Listen(service, first, has_clock, file) => serve(
             rt, book, file, service, *first, *has_clock, verbosity, out, err,
@@ -169,6 +175,20 @@ fn found<'a, R: FileNames + AllocGlobal>(
     }
 }
 
+// Of how many entries a line wants the seal, if it says it.
+fn first_of(alloc: Global, text: Option<&str>) -> Result<Option<u64>, CommandError>
+    ensures { IfOk result (λ first. option_map (λ t. meant.entries_in t.now) text.entry
+        ≡ option_map (λ n. Some n) first) }
+{
+    let Some(text) = text else {
+        return Ok(None);
+    };
+    match entries_in(text.as_bytes()) {
+        Some(count) => Ok(Some(count)),
+        None => Err(usage(alloc, "--first wants a number from 0 to 999999999\n")),
+    }
+}
+
 // What a line says is to be done over the book in a file, its words tested and its files read.
 pub(crate) fn job_of<'a, R: FileSystem + FileNames + TimeSource + AllocGlobal>(
     rt: &R,
@@ -193,6 +213,7 @@ pub(crate) fn job_of<'a, R: FileSystem + FileNames + TimeSource + AllocGlobal>(
         },
         Task::Batch { file } => Ok(Ok(Job::Play(read_lines(rt, file)?))),
         Task::Verify => Ok(Ok(Job::Check)),
+        Task::Seal { first } => Ok(Ok(Job::Seal(first_of(rt.alloc(), *first)?))),
         Task::Serve { service, at } => {
             let first = moment_for(rt, *at)?;
             let served = found(rt, file)?;

@@ -53,11 +53,12 @@ pub(crate) fn told_of<L: Callers, K: Keeper>(
 pub(crate) fn service_at(listener: &TcpListener, clerks: bool) -> io::Result<Service<'static>> {
     Ok(Service {
         address: listener.local_addr()?,
-        count: 2,
+        count: Some(2),
         patience: None,
         peers: None,
         clerks,
         hosts: None,
+        from: None,
     })
 }
 

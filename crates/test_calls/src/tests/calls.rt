@@ -3,8 +3,10 @@
 mod breaking;
 mod browsers;
 mod exchanges;
+mod proxies;
 mod taking;
 pub(crate) mod worked;
+mod writing;
 
 use std::test::Fail;
 use stock::allot;

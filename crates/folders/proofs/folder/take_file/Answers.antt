@@ -55,6 +55,7 @@ pub returns-clause-taken : goal.returns-clause-taken
 returns-clause-taken g c =
     let path = file_path c.args.dir.now c.args.name.now in
     let writes = g.R.FileSystem.writes c.args.rt.now in
+    let lacks = g.R.FileSystem.lacks c.args.rt.now in
     let at : c.deref.result.now ≡ path = search rules in
     let beside : c.deref-3.result.now ≡ path = search rules in
     let reply = told c.in_ok-reply.reply in
@@ -66,6 +67,7 @@ returns-clause-taken g c =
             (subst (λ (items : List ℕ). IsText (g.R.FileSystem.reads c.args.rt.now) c.deref.result.now items) (sym c.deref-2.ensures.value) c.in_ok-bytes.ensures.read);
         answered = λ some. subst (writes (answer_path path)) text
             (subst (λ (p : List ℕ). writes (answer_path p) c.deref-4.result.now) beside (c.in_ok-leave_answer.ensures.written (λ none. some (sym text ∙ none))));
+        unanswered = λ none. subst (λ (p : List ℕ). lacks (answer_path p)) beside (c.in_ok-leave_answer.ensures.removed (text ∙ none));
       };
       replied = λ clean L u. c.in_ok-reply.ensures.reply clean L u.keeps u.legal;
       told_is = c.outcome_of-outcome.ensures.told;

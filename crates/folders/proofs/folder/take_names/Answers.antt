@@ -13,7 +13,7 @@ use Rattle.folders.proofs.folder.take_names.Goals as goal
 pub loop-name-init : goal.loop-name-init
 loop-name-init g c =
     let at = g.K.Keeper.standing c.args.keeper.now in
-    let P = IsHanded (g.R.FileSystem.reads c.args.rt.now) (g.R.FileSystem.writes c.args.rt.now) c.args.dir.now in
+    let P = IsHanded (g.R.FileSystem.reads c.args.rt.now) (g.R.FileSystem.writes c.args.rt.now) (g.R.FileSystem.lacks c.args.rt.now) c.args.dir.now in
     record {
       goes = (unchanged_refl at).goes;
       shut = refl;
@@ -29,7 +29,7 @@ loop-name-preserved g c =
     let old = g.K.Keeper.standing c.args.keeper.now in
     let now = g.K.Keeper.standing c.loop-name.keeper in
     let new = g.K.Keeper.standing c.take_file.new.keeper in
-    let P = IsHanded (g.R.FileSystem.reads c.args.rt.now) (g.R.FileSystem.writes c.args.rt.now) c.args.dir.now in
+    let P = IsHanded (g.R.FileSystem.reads c.args.rt.now) (g.R.FileSystem.writes c.args.rt.now) (g.R.FileSystem.lacks c.args.rt.now) c.args.dir.now in
     let name : c.deref.result.now ≡ string_bytes c.in-Some.name = search rules in
     let grown = rw c.unwrap.ensures at c.push.ensures.items in
     let names = told_more_of (λ file. string_bytes file.name) c.loop-name.files.items c.take_file.new.files.items c.push.new.self.items _ c.take_file.ensures.kept grown in
@@ -51,7 +51,7 @@ returns-in-Err-clause-stopped g c =
     let old = g.K.Keeper.standing c.args.keeper.now in
     let now = g.K.Keeper.standing c.loop-name.keeper in
     let new = g.K.Keeper.standing c.take_file.new.keeper in
-    let P = IsHanded (g.R.FileSystem.reads c.args.rt.now) (g.R.FileSystem.writes c.args.rt.now) c.args.dir.now in
+    let P = IsHanded (g.R.FileSystem.reads c.args.rt.now) (g.R.FileSystem.writes c.args.rt.now) (g.R.FileSystem.lacks c.args.rt.now) c.args.dir.now in
     let has = λ (n : List ℕ). IsText (g.R.FileSystem.reads c.args.rt.now) (file_path c.args.dir.now n) in
     let told : c.len.result ≡ length c.take_file.new.files.items = search rules in
     let name : c.deref.result.now ≡ string_bytes c.in-Some.name = search rules in

@@ -12,7 +12,7 @@ invariant-loop-name g l =
     record {
       goes : GoesOn old now;
       shut : old.shut ≡ now.shut;
-      handed : AreFilesHanded (IsHanded (g.R.FileSystem.reads l.fn.rt) (g.R.FileSystem.writes l.fn.rt) l.fn.dir) old now l.fn.moment
+      handed : AreFilesHanded (IsHanded (g.R.FileSystem.reads l.fn.rt) (g.R.FileSystem.writes l.fn.rt) (g.R.FileSystem.lacks l.fn.rt) l.fn.dir) old now l.fn.moment
           (map (λ file. string_bytes file.name) l.files.items) (map (λ file. became_of file.outcome) l.files.items);
       each : map (λ file. file.name) l.files.items ++ into_iter_items l.name-iterator ≡ l.fn.names.items;
       told : goal.T-IsAlwaysCallable g l.told;

@@ -1,13 +1,11 @@
 //! A server with doors: what a browser sends for a page of somebody else is turned away, and leaves
 //! nothing; other requests are answered as without doors.
 use super::worked::{ADVICE, ANSWER, enrolled, morning};
-use intake::{Access, Audience, Doors, Gauge, serve_telling};
+use super::writing::{FORBIDDEN, HEAD, NONE_OUT, concat_of, is_written};
+use intake::{Access, Audience, Doors};
 use std::alloc::Global;
 use std::test::Fail;
 use store::{Keeper, Moment};
-
-const FORBIDDEN: &str =
-    "HTTP/1.1 403 Forbidden\r\nContent-Type: text/plain\r\nContent-Length: 14\r\nConnection: close\r\n\r\n403 Forbidden\n";
 
 const MISDIRECTED: &str =
     "HTTP/1.1 421 Misdirected Request\r\nContent-Type: text/plain\r\nContent-Length: 24\r\nConnection: close\r\n\r\n421 Misdirected Request\n";
@@ -17,10 +15,6 @@ const BAD: &str =
 
 const ENCODED: &str =
     "HTTP/1.1 501 Not Implemented\r\nContent-Type: text/plain\r\nContent-Length: 20\r\nConnection: close\r\n\r\n501 Not Implemented\n";
-
-// The list of what went out, where nothing did.
-const NONE_OUT: &str =
-    "HTTP/1.1 200 OK\r\nContent-Type: text/plain\r\nContent-Length: 0\r\nConnection: close\r\n\r\n";
 
 // The lines of a head after its first, without Content-Length, of an advice that is posted; and how
 // it is answered. In between nothing is recorded.
@@ -64,34 +58,13 @@ const ANSWERED: &[&str] = &[
     "",
 ];
 
-// The texts, one after the other.
-fn concat_of(alloc: Global, texts: &[&str]) -> Result<String, Fail> {
-    let mut whole = String::new(alloc);
-    for text in texts {
-        whole.push_str(text)?;
-    }
-    Ok(whole)
-}
-
-// Whether a server with doors, which is called by two names more, writes this in response.
-fn is_written<K: Keeper>(
-    alloc: Global,
-    book: &mut K,
-    moment: Moment,
-    request: &str,
-    response: &str,
-) -> bool {
-    let mut reader = Gauge::new(request.as_bytes());
-    let mut writer = Gauge::new(Vec::new(alloc));
-    let access = Access {
-        audience: Audience::Partners,
-        doors: Some(Doors {
-            names: Some("edi.example,dock.example"),
-        }),
-    };
-    let served = serve_telling(alloc, &mut reader, &mut writer, book, access, moment);
-    served.outcome.is_ok() && writer.into_inner().as_slice() == response.as_bytes()
-}
+const WITH_DOORS: Access<'static> = Access {
+    audience: Audience::Partners,
+    doors: Some(Doors {
+        names: Some("edi.example,dock.example"),
+    }),
+    from: None,
+};
 
 // Fails where the advice, posted with these lines in its head, is answered otherwise.
 fn post<K: Keeper>(
@@ -104,7 +77,7 @@ fn post<K: Keeper>(
     let advice = std::str::from_utf8(ADVICE)?;
     let head = "POST /x12 HTTP/1.1\r\nContent-Length: 255\r\n";
     let request = concat_of(alloc, &[head, lines, "\r\n", advice])?;
-    if is_written(alloc, book, moment, &request, response) {
+    if is_written(alloc, book, WITH_DOORS, moment, &request, response) {
         Ok(())
     } else {
         Err(Fail::new(format_args!("{lines}")))
@@ -119,10 +92,8 @@ fn what_a_browser_sends_for_others_is_turned_away(rt: HostRuntime) -> Result<(),
         post(alloc, &mut book, moment, lines, response)?;
     }
     let outbox = "GET /outbox/ZZ-ACME HTTP/1.1\r\nHost: localhost\r\n\r\n";
-    assert!(rt; is_written(alloc, &mut book, moment, outbox, NONE_OUT));
-    let head =
-        "HTTP/1.1 200 OK\r\nContent-Type: application/EDI-X12\r\nContent-Length: 265\r\nConnection: close\r\n\r\n";
-    let answer = concat_of(alloc, &[head, std::str::from_utf8(ANSWER)?])?;
+    assert!(rt; is_written(alloc, &mut book, WITH_DOORS, moment, outbox, NONE_OUT));
+    let answer = concat_of(alloc, &[HEAD, std::str::from_utf8(ANSWER)?])?;
     for lines in ANSWERED {
         post(alloc, &mut book, moment, lines, &answer)?;
     }

@@ -4,10 +4,11 @@ mod texts;
 
 use super::breaking::BreakingBook;
 use super::worked::{acme, counts, empty, enrolled, faultless, morning, ninety};
+use super::writing::is_written;
 use cases::clerks::{deeds, looks, request_of, response_of, strays};
 use cases::sections::section_of;
 use http::Method;
-use intake::{Access, Audience, Gauge, Status, respond, serve_one, serve_telling};
+use intake::{Access, Audience, Gauge, Status, respond, serve_one};
 use std::alloc::Global;
 use std::io::{self, ErrorKind, Read, Write};
 use std::test::Fail;
@@ -242,23 +243,11 @@ fn a_fault_is_answered_by_its_number(rt: HostRuntime) -> Result<(), Fail> {
     all_answered(rt.alloc(), &mut book, moment, AFTER_THE_FAULT)
 }
 
-// Whether a server that takes clerks' requests too writes this in response to one.
-fn is_written<K: Keeper>(
-    alloc: Global,
-    book: &mut K,
-    moment: Moment,
-    request: &str,
-    response: &str,
-) -> bool {
-    let mut reader = Gauge::new(request.as_bytes());
-    let mut writer = Gauge::new(Vec::new(alloc));
-    let clerks = Access {
-        audience: Audience::Clerks,
-        doors: None,
-    };
-    let served = serve_telling(alloc, &mut reader, &mut writer, book, clerks, moment);
-    served.outcome.is_ok() && writer.into_inner().as_slice() == response.as_bytes()
-}
+const OF_CLERKS: Access<'static> = Access {
+    audience: Audience::Clerks,
+    doors: None,
+    from: None,
+};
 
 // Fails at the first case of a text that is answered otherwise.
 fn all_written<K: Keeper>(
@@ -271,7 +260,7 @@ fn all_written<K: Keeper>(
         let (line, body) = section_of(case, "asked");
         let request = request_of(alloc, line, body)?;
         let response = response_of(alloc, section_of(case, "answered").1)?;
-        if !is_written(alloc, book, moment, &request, &response) {
+        if !is_written(alloc, book, OF_CLERKS, moment, &request, &response) {
             return Err(Fail::new(format_args!("{case}")));
         }
     }

@@ -23,13 +23,15 @@ const ENTRIES: [(bool, Option<&str>); 6] = [
 ];
 
 // A folder in memory. Of the smaller one `a.x12` and `b.x12` are the advice; all other files are
-// unreadable. It takes no other answer than that to the advice, beside these two.
+// unreadable. It takes no other answer than that to the advice, beside these two, and lets no
+// answer of theirs be removed. Beside `c.x12` an old answer stands, until it is removed.
 #[derive(Drop)]
 struct Drawer {
     alloc: Global,
     is_large: bool,
     failing: &'static str,
     written: Cell<u32>,
+    has_old: Cell<bool>,
 }
 
 impl Drawer {
@@ -39,6 +41,7 @@ impl Drawer {
             is_large,
             failing,
             written: Cell::new(0),
+            has_old: Cell::new(true),
         }
     }
 
@@ -104,6 +107,17 @@ impl FileSystem for Drawer {
             return Err(io::Error::from(ErrorKind::Unsupported));
         }
         self.written.set(self.written.get().saturating_add(1));
+        Ok(())
+    }
+
+    fn remove(&self, path: &str) -> io::Result<()> {
+        self.try_path(path)?;
+        if path == "in/a.x12.ans" || path == "in/b.x12.ans" {
+            return Err(io::Error::from(ErrorKind::Unsupported));
+        }
+        if path == "in/c.x12.ans" {
+            self.has_old.set(false);
+        }
         Ok(())
     }
 }
@@ -178,13 +192,14 @@ fn taken_again(
 fn a_folder_is_taken_again_after_each_failure(rt: HostRuntime) -> Result<(), Fail> {
     // The path of the call that fails, the file at which the folder stops, how many were taken
     // before, how many answers were written, and what becomes of the first when it is taken again.
-    let cases: [(&'static str, Option<&str>, u64, u32, FileOutcome); 6] = [
+    let cases: [(&'static str, Option<&str>, u64, u32, FileOutcome); 7] = [
         ("in", None, 0, 0, FileOutcome::Accepted),
         ("in/a.x12", Some("a.x12"), 0, 0, FileOutcome::Accepted),
         ("in/a.x12.ans", Some("a.x12"), 0, 0, FileOutcome::Stored),
         ("in/b.x12", Some("b.x12"), 1, 1, FileOutcome::Stored),
         ("in/b.x12.ans", Some("b.x12"), 1, 1, FileOutcome::Stored),
         ("in/c.x12", Some("c.x12"), 2, 2, FileOutcome::Stored),
+        ("in/c.x12.ans", Some("c.x12"), 2, 2, FileOutcome::Stored),
     ];
     for (failing, at, before, written, again) in cases {
         let (stop, left, first) = taken_again(rt.alloc(), failing)?;
@@ -198,6 +213,20 @@ fn a_folder_is_taken_again_after_each_failure(rt: HostRuntime) -> Result<(), Fai
             "{failing}"
         );
     }
+    Ok(())
+}
+
+#[test]
+fn an_old_answer_goes_where_a_text_is_unreadable(rt: HostRuntime) -> Result<(), Fail> {
+    let mut book = empty(rt.alloc())?;
+    enrols(rt.alloc(), &mut book, acme()?, morning()?);
+    let mut drawer = Drawer::new(rt.alloc(), false, "in/c.x12");
+    // The file can't be read, and so what stands beside it stays.
+    let stopped = taken(&drawer, &mut book)?.is_err();
+    assert!(rt; stopped && drawer.has_old.get());
+    drawer.failing = "";
+    let is_taken = taken(&drawer, &mut book)?.is_ok();
+    assert!(rt; is_taken && !drawer.has_old.get());
     Ok(())
 }
 

@@ -1,4 +1,4 @@
-use Rattle.std.proofs.Common.{ap, ◌∙◌, ◌≡◌, rules, arith, sym, subst, take}
+use Rattle.std.proofs.Common.{ap, refl, ◌∙◌, ◌≡◌, rules, arith, sym, subst, take}
 use Rattle.std.specs.Prelude.{IsErrAnd}
 use Rattle.std.proofs.lemmas.List.{take_all}
 use Rattle.sqlite.specs.Effect.{Database}
@@ -10,6 +10,7 @@ use Rattle.book_tables.specs.Comparing.{AreTables, IsLaid}
 use Rattle.book_statements.specs.Exits.{StandsWhileOpen}
 use Rattle.book_statements.specs.Layout.{IsLayout}
 use Rattle.book_statements.specs.Standing.{StandsSecond}
+use Rattle.book_statements.proofs.Asked.{asked_twice}
 use Rattle.book_tables.proofs.AskedLater.{clean_before}
 use Rattle.book_tables.proofs.Queries.{went_fails, went_of, went_on}
 use Rattle.books.specs.Opened.{Opened, standing_of}
@@ -102,4 +103,36 @@ returns-then-not-same-clause-reading g c = rw (← c.self.view_is) (record {
         subst (λ V. StandsWhileOpen other V L) copy.warehouse (subst (StandsWhileOpen other c.copy.inside.warehouse) whole keeps.stands) in
         never_both c.in_ok-same.same (its.same clean (c.requires.clean c.same_tables.new.other.conn) W L stood copy.stands) c.if-not-same.true;
   };
+})
+
+pub returns-in_err-all-clause-unchanged : goal.returns-in_err-all-clause-unchanged
+returns-in_err-all-clause-unchanged g c = rw (← c.self.view_is) (record {
+  tables = c.in_err-all.ensures.went.left;
+  warehouse = refl;
+  entries = refl;
+  shut = refl;
+})
+
+pub returns-in_err-same-clause-unchanged : goal.returns-in_err-same-clause-unchanged
+returns-in_err-same-clause-unchanged g c = rw (← c.self.view_is) (record {
+  tables = asked_twice (state g.S.Store c.self.inside.tables.conn) (state g.S.Store c.give_all.new.tables.conn) (state g.S.Store c.same_tables.new.self.conn) c.in_ok-all.ensures.went.left c.in_err-same.ensures.asked.left;
+  warehouse = refl;
+  entries = refl;
+  shut = refl;
+})
+
+pub returns-then-not-same-clause-unchanged : goal.returns-then-not-same-clause-unchanged
+returns-then-not-same-clause-unchanged g c = rw (← c.self.view_is) (record {
+  tables = asked_twice (state g.S.Store c.self.inside.tables.conn) (state g.S.Store c.give_all.new.tables.conn) (state g.S.Store c.same_tables.new.self.conn) c.in_ok-all.ensures.went.left c.in_ok-same.ensures.asked.left;
+  warehouse = refl;
+  entries = refl;
+  shut = refl;
+})
+
+pub returns-clause-unchanged : goal.returns-clause-unchanged
+returns-clause-unchanged g c = rw (← c.self.view_is) (record {
+  tables = asked_twice (state g.S.Store c.self.inside.tables.conn) (state g.S.Store c.give_all.new.tables.conn) (state g.S.Store c.same_tables.new.self.conn) c.in_ok-all.ensures.went.left c.in_ok-same.ensures.asked.left;
+  warehouse = refl;
+  entries = refl;
+  shut = refl;
 })

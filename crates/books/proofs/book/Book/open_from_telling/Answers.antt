@@ -27,7 +27,7 @@ returns-in-Err-bring_up-clause-err g c =
     record {
       not_this = search rules;
       this = search rules;
-      asked = opens_as g.S.Store c.in-Ok.found.0.0 c.in-Ok.found.1 c.args.tables c.found.new.self c.bring_up.new.tables c.bring_up.result c.found.ensures.tells.asked c.bring_up.ensures.brought c.in-Ok.found.0.1 c.in-Ok.ensures.tells.house;
+      asked = opens_as g.S.Store c.in-Ok.found.0.0 c.in-Ok.found.1 c.args.tables c.found.new.self c.bring_up.new.tables c.bring_up.result c.found.ensures.tells.asked c.bring_up.ensures.brought c.in-Ok.found.0.1 c.in-Ok.ensures.tells.was_open c.in-Ok.ensures.tells.house;
       untouched = search rules;
       carried = λ clean W L stands all.
           let v = g.S.Store in
@@ -64,7 +64,7 @@ returns-clause-ok g c =
           c.settle.ensures.live c.settle.ensures.rest (λ db may. g.met.S.Store.settled was.store db opened may) it.0 refl it.2 stands in
           (it.1, usable.keeps);
       opened = refl;
-      still = opens_as g.S.Store c.in-Ok.found.0.0 c.in-Ok.found.1 c.args.tables c.found.new.self c.bring_up.new.tables c.bring_up.result c.found.ensures.tells.asked c.bring_up.ensures.brought c.in-Ok.found.0.1 c.in-Ok.ensures.tells.house;
+      still = opens_as g.S.Store c.in-Ok.found.0.0 c.in-Ok.found.1 c.args.tables c.found.new.self c.bring_up.new.tables c.bring_up.result c.found.ensures.tells.asked c.bring_up.ensures.brought c.in-Ok.found.0.1 c.in-Ok.ensures.tells.was_open c.in-Ok.ensures.tells.house;
       house = λ clean.
           let v = g.S.Store in
           let found = c.in-Ok.found in

@@ -1,0 +1,4 @@
+use Rattle.command_line.proofs.subcommands.seal.Goals as goal
+
+pub returns : goal.returns
+returns c = c.with_at.ensures _ (c.subcommand-command.ensures _ c.option.ensures)

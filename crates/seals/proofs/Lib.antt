@@ -1,0 +1,4 @@
+pub mod Chains
+pub mod Framing
+pub mod Collisions
+mod RowsSeals

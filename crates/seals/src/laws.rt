@@ -1,0 +1,49 @@
+//! Laws of seals: nothing runs, a contract is the law.
+ghost use Rattle.std.specs.Prelude.{◌≡◌, ◌⊎◌, ℕ, List, ◌++◌, length, take, flat_map, Some};
+ghost use Rattle.hex.specs.Hex.{IsBytes};
+ghost use Rattle.profile.specs.declared.rules.Rules.TheVariants.{Two};
+ghost use Rattle.profile.specs.Header.{Who};
+ghost use Rattle.profile.specs.Register.{Entry};
+ghost use Rattle.profile.specs.Accepted.{IsLegal};
+ghost use Rattle.store.specs.Replayed.{written_on};
+ghost use Rattle.seals.specs.Seals.{AreHeld, Collide, IsHeld, digested, framed, seal_in, seal_of, seal_of_first, seal_on, seal_text};
+ghost use Rattle.seals.specs.declared.seal.TheConstants.{SEAL_BYTES};
+
+/// One register has one seal, however its book came about.
+pub fn a_register_has_one_seal()
+    ensures { (L M : List Entry) → L ≡ M → seal_of L ≡ seal_of M }
+{}
+
+/// The seal of a register that goes on is that of its beginning, gone on with.
+pub fn seals_go_on()
+    ensures { (L M : List Entry) → seal_of (L ++ M) ≡ seal_on (seal_of L) (written_on L M) }
+{}
+
+/// So the seal that was noted of a register is that of the first entries, as many as it had, of
+/// each register that goes on from it.
+pub fn a_seal_stays()
+    ensures { (L M : List Entry) → seal_of_first (length L) (L ++ M) ≡ Some (seal_of L) }
+{}
+
+/// No two lists of texts, each behind its length, are one text.
+pub fn framed_texts_are_told_apart()
+    ensures { (xs ys : List (List ℕ)) → AreHeld xs → AreHeld ys
+        → flat_map framed xs ≡ flat_map framed ys → xs ≡ ys }
+{}
+
+/// Of a legal register somebody noted the seal, and how many entries it has. A legal register whose
+/// first entries, as many, have this seal goes on from the noted one. Or else two different texts
+/// have one SHA-256, and it is known which: they were digested for the two seals, at one place. No
+/// two such texts have been found so far.
+pub fn a_noted_seal_tells_the_entries()
+    ensures { (V W : Who) (L M : List Entry) → IsLegal Two V L → IsLegal Two W M → IsHeld L
+        → IsHeld M → seal_of_first (length L) M ≡ Some (seal_of L)
+        → (take (length L) M ≡ L) ⊎ Collide (digested (take (length L) M)) (digested L) }
+{}
+
+/// The text of a seal is read as the seal, and no other text is.
+pub fn seals_are_read_back()
+    ensures back { (seal : List ℕ) → length seal ≡ SEAL_BYTES → IsBytes seal
+        → seal_in (seal_text seal) ≡ Some seal }
+    ensures only { (text seal : List ℕ) → seal_in text ≡ Some seal → text ≡ seal_text seal }
+{}
