@@ -1,10 +1,12 @@
 -- How a line of words ended, from what the files of its book held.
-use Rattle.std.specs.Prelude.{◌≡◌, ◌⊎◌, Bool, ℕ, true, false, List, Option, Some, Result, Ok, Err, OnOk, map}
+use Rattle.std.specs.Prelude.{◌≡◌, ◌⊎◌, Bool, ◌||◌, ℕ, true, false, List, [], ◌∷◌, Option, Some, Result, Ok, Err, OnOk, map, bytes_eq, codes}
 use Rattle.std.specs.Borrow.{Bor}
+use Rattle.std.specs.Option.{option_map_or}
 use Rattle.sqlite_disk.specs.declared.Disk.{Ghosts as Disks}
 use Rattle.sqlite.specs.Recovery.{Image}
+use Rattle.store.specs.Fault.TheVariants.{OutOfMemory}
 use Rattle.store.specs.Refusal.{Refusal}
-use Rattle.command_line.specs.Asked.{IsLineRead}
+use Rattle.command_line.specs.Asked.{CanBeRead, IsLineRead}
 use Rattle.command_line.specs.declared.words.Place.TheVariants.{Program}
 use Rattle.command_line.specs.declared.words.Task.{Task}
 use Rattle.command_line.specs.declared.words.Words.{Words}
@@ -13,6 +15,7 @@ use Rattle.commands.specs.Acting.{Ending}
 use Rattle.commands.specs.Files.{reads_any}
 use Rattle.commands.specs.Statuses.{code_of, status_of_stop}
 use Rattle.commands.specs.Stops.{HasDeviceFault, fault_in}
+use Rattle.commands.specs.declared.told.CommandError.TheVariants as stops
 use Rattle.commands.specs.declared.told.ExitStatus.{ExitStatus}
 use Rattle.running.specs.Explaining.{without_asking}
 use Rattle.running.specs.Faults.{is_in_use}
@@ -27,6 +30,16 @@ abbrev pub IsToldAs : Ending → Ending → Type 0
 IsToldAs (Ok status) (Ok told) = told ≡ status
 IsToldAs (Err stop) (Err told) = fault_in told ≡ fault_in stop
 IsToldAs first other = ⊥
+
+-- whether a line asks for help, or for the version, which are shown
+abbrev pub asks_for_help : List (Bor (List ℕ)) → Bool
+asks_for_help [] = false
+asks_for_help (word ∷ words) = bytes_eq word.now (codes "help")
+    || bytes_eq word.now (codes "--version")
+
+-- the words of a line but for the one that asks for explanations
+abbrev pub line_of : List (Bor (List ℕ)) → List (Bor (List ℕ))
+line_of said = option_map_or (λ line. line) (without_asking said) said
 
 -- whether the words of a line, over a book in its file, say that nothing is supposed of what its disk
 -- leaves of a torn write
@@ -91,10 +104,17 @@ module _ {D : Type 0} {disk : Disks D} where
       pub read : IsLineRead Program (map (λ w. w.now) said) asked
       pub ended : IsWordsEnded asked before later ending files
 
-    -- what a line came to; one that can't be read, or asks for help, opens no book
+    -- no book was opened: the line can't be read, or it asks for help, or memory was wanting
+    pub record IsPassedOver
+        (said : List (Bor (List ℕ))) (ending : Ending) (files : FilesLeft D disk) : Type 0 where
+      pub untouched : files ≡ left.Untouched
+      pub why : asks_for_help said ≡ false → CanBeRead Program (map (λ w. w.now) said)
+          → ending ≡ Err (stops.Fault OutOfMemory)
+
+    -- what a line came to
     abbrev pub IsLineEnded : List (Bor (List ℕ)) → W → W → Ending → FilesLeft D disk → Type 0
     IsLineEnded said before later ending files = HasLineEnded said before later ending files
-        ⊎ (files ≡ left.Untouched)
+        ⊎ IsPassedOver said ending files
 
     -- what the words of a line came to, with the exit status
     pub record IsLineRun
@@ -105,9 +125,6 @@ module _ {D : Type 0} {disk : Disks D} where
       pub says : code ≡ code_of (status_of_ending ending)
 
     -- the same of a line of the program, one of whose words may ask for explanations
-    pub record IsProgramRun
-        (said : List (Bor (List ℕ))) (before later : W) (code : ℕ) (files : FilesLeft D disk)
-        : Type 0 where
-      pub line : List (Bor (List ℕ))
-      pub is_line : (line ≡ said) ⊎ (without_asking said ≡ Some line)
-      pub run : IsLineRun line before later code files
+    abbrev pub IsProgramRun : List (Bor (List ℕ)) → W → W → ℕ → FilesLeft D disk → Type 0
+    IsProgramRun said before later code files =
+        IsLineRun (line_of said) before later code files
