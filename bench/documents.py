@@ -127,6 +127,14 @@ def wrong_count():
         yield f"examples/day/run.sh --crates: {said.strip()}, and not {wanted}"
 
 
+def wrong_edits():
+    """Whether README.md counts the wrong bodies of CI."""
+    said = re.search(r"refuses (\d+) functions", read("README.md"))
+    wanted = str(len(glob.glob(f"{TOP}/crates/*/must-fail/*.edit")))
+    if not said or said[1] != wanted:
+        yield f"README.md: the wrong bodies of CI are {wanted}"
+
+
 def other_versions():
     """Pages that name another version than the program's own constant (crates/running/src/run.rt)."""
     version = re.search(r'VERSION: &str = "whx12 (\S+)\\n"', read("crates/running/src/run.rt"))[1]
@@ -142,7 +150,7 @@ def main():
     counts = {page: words_of(text) for page, text in texts.items() if page not in MADE}
     if "--words" in sys.argv:
         print("\n".join(f"{count:6} {page}" for page, count in counts.items()))
-    wrong = [*too_many_words(counts), *lost_records(), *old_parts(), *wrong_count(), *other_versions()]
+    wrong = [*too_many_words(counts), *lost_records(), *old_parts(), *wrong_count(), *wrong_edits(), *other_versions()]
     for page, text in texts.items():
         wrong += [*lost_paths(page, text), *wrong_terms(page, text)]
         if page not in MADE:
