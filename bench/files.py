@@ -10,7 +10,7 @@ The status is 1 where something is otherwise than said here:
     that becomes it, is to be written: both stay as they are, byte for byte, and the answer is there as a
     file of its own; a book that has two names itself isn't opened (44);
   - what an earlier stop left is removed; a folder at an answer's name is fault 44, and taking again
-    mends it;
+    mends it; an old answer beside a text that has none now is removed, and of a link the link alone;
   - pipes, sockets, folders, links that lead nowhere, in a circle or to a folder, names that aren't UTF-8
     and names that are too long are passed over, and the interchanges beside them are taken; a link to a
     file is taken as that file;
@@ -148,6 +148,22 @@ def left_over(house):
     house.is_answered("mended")
 
 
+def gone(house):
+    """An answer of before, beside a text that has none now: it is removed, and of a link the link alone."""
+    house.take("before", "a.x12 accepted")
+    house.is_answered("before")
+    for what in ("a file", "a link"):
+        house.put("a.x12", b"no interchange")
+        if what == "a link":
+            os.symlink(os.fsencode(house.book), house.path("a.x12.ans"))
+        before = house.holds(house.book)
+        same(f"{what}: told", house.run("take", house.inbox, *AT), (1, "a.x12 unreadable\n", ""))
+        same(f"{what}: what is left", sorted(os.listdir(house.inbox)), ["a.x12"])
+        same(f"{what}: the text", house.holds(house.path("a.x12")), b"no interchange")
+        same(f"{what}: the book", house.holds(house.book) == before, True)
+    house.is_sound("after")
+
+
 def odd_entries(house):
     """What is passed over, and what is taken beside it."""
     longest, longer = b"n" * 247 + b".x12", b"n" * 248 + b".x12"
@@ -207,11 +223,11 @@ def words(house):
 
 def main(argv):
     program = program_of(argv[0] if argv else None)
-    cases = [links, left_over, odd_entries, limits, words]
+    cases = [links, left_over, gone, odd_entries, limits, words]
     for case in cases:
         with tempfile.TemporaryDirectory(prefix="whx12-files-") as folder:
             case(House(program, folder))
-    print(f"{len(cases)} folders with odd things in them: links, leftovers, entries, limits, words")
+    print(f"{len(cases)} folders with odd things in them: links, leftovers, old answers, entries, limits, words")
 
 
 if __name__ == "__main__":
