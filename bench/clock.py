@@ -5,8 +5,8 @@ Usage: bench/clock.py [PROGRAM]     (default: crates/whx12/out/whx12, which `rt 
 
 A library put before the C library's answers clock_gettime with the seconds that a file holds. Outside
 the years 2000 to 2099 a command that takes its moment from the clock is a usage fault, and nothing is
-done; in them the answer has the clock's moment. A server that the clock leaves in the lurch goes on with
-the last good moment. The status is 1 where something is otherwise.
+done; in them the answer has the clock's moment. A server tells of a clock that shows a moment before the
+last entry, and where the clock leaves it in the lurch goes on with the last good moment. The status is 1 where something is otherwise.
 """
 import calendar
 import os
@@ -44,6 +44,7 @@ int clock_gettime(clockid_t clock, struct timespec *at) {
 }
 """
 TOLD = "the clock is not in the years 2000 to 2099\n"
+BACK = "the clock shows 2025-03-04T09:15:00, before the last entry's 2099-12-31T23:59:00\n"
 BAD = [(1999, 12, 31, 23, 59), (2100, 1, 1, 0, 0)]
 GOOD = [(2000, 1, 1, 0, 0), (2099, 12, 31, 23, 59)]
 
@@ -147,7 +148,7 @@ def server(house):
     same("later", stamped(post(port, 5)), stamp(later))
     house.set(BAD[0])
     same("at a bad moment again", stamped(post(port, 6)), stamp(later))
-    same("the server", (*serving.communicate(timeout=20), serving.returncode), ("200\n" * 4, "", 0))
+    same("the server", (*serving.communicate(timeout=20), serving.returncode), ("200\n" * 4, BACK, 0))
 
 
 def main(words):

@@ -6,10 +6,11 @@ Usage: bench/seals.py [--commands N] [--seed N] [PROGRAM]
 
 A book on disk takes random interchanges of two depositors and what clerks do. Python reads its tables
 `entry` and `entry_rules`, and chains SHA-256 over the entries as docs/PROMISES.md has it: `seal`, and
-`seal --first` of each number up to the entries, must print the same, and with more end with status 1.
+`seal --first` of each number up to the entries, must print the same, and with more end with status 1;
+`verify --seal` says ok of these, and 43 of another.
 Then the book is changed where `verify` can't see it: its last entries are taken out as a whole, by a copy
-from before; a byte of an interchange is another that no row shows. `verify` says ok of both, and the
-seals of then are no more. Of a book of version 1 the seals are the same before it is carried over, as
+from before; a byte of an interchange is another that no row shows. `verify` says ok of both, and with
+the seal of then it says 43 of both. Of a book of version 1 the seals are the same before it is carried over, as
 Python reads it, and after. Status 1 where something differs; the folder is then kept.
 """
 import glob
@@ -38,7 +39,7 @@ def framed(field):
 
 
 def entries_of(book):
-    """The entries of a book, each as the bytes that are sealed of it, by Python's SQLite over a copy."""
+    """The entries of a book, each as the bytes that are sealed of it and its moment, by Python's SQLite over a copy."""
     with tempfile.TemporaryDirectory(prefix="seals-") as room:
         for file in glob.glob(book + "*"):
             shutil.copy(file, room)
@@ -48,15 +49,17 @@ def entries_of(book):
         rules = dict(base.execute("SELECT seq, rules FROM entry_rules")) if has_rules else {}
         rows = base.execute("SELECT seq, who, mark, n, moment, body FROM entry ORDER BY seq").fetchall()
         base.close()
-    return [b"".join(framed(it) for it in (who, mark, b"%d" % n, moment.translate(None, b"-T:"), bytes(body), b"%d" % rules.get(seq, 1)))
-            for seq, who, mark, n, moment, body in rows]
+    shown = [(seq, who, mark, n, moment.translate(None, b"-T:"), body) for seq, who, mark, n, moment, body in rows]
+    return [(b"".join(framed(it) for it in (who, mark, b"%d" % n, moment, bytes(body), b"%d" % rules.get(seq, 1))), moment.decode())
+            for seq, who, mark, n, moment, body in shown]
 
 
 def seal_of(entries):
-    seal = bytes(32)
-    for entry in entries:
+    """The line that tells the seal of these entries: their number, the digits, and the moment of the last."""
+    seal, last = bytes(32), "-"
+    for entry, last in entries:
         seal = hashlib.sha256(seal + entry).digest()
-    return f"{len(entries)}:{seal.hex()}\n"
+    return f"{len(entries)}:{seal.hex()} {last}\n"
 
 
 def check(house, book):
@@ -66,6 +69,12 @@ def check(house, book):
     same("seal", house.run("seal", book=book), (0, seals[-1], ""))
     for count, seal in enumerate(seals):
         same(f"seal --first {count}", house.run("seal", "--first", str(count), book=book), (0, seal, ""))
+    for count in {0, len(entries) // 2, len(entries)}:
+        mark = seals[count].split()[0]
+        same(f"verify --seal {count}:..", house.run("verify", "--seal", mark, book=book), (0, f"ok {len(entries)}\n", ""))
+    if entries:
+        other = f"{len(entries)}:{seals[0].split()[0][2:]}"
+        same("verify of another seal", house.run("verify", "--seal", other, book=book), (3, "", "fault 43 NotThisBook\n"))
     more = str(len(entries) + 1)
     same("a seal of more", house.run("seal", "--first", more, book=book), (1, "", f"the book has fewer entries than {more}\n"))
     return seals
@@ -92,12 +101,15 @@ def tell_apart(house, seals):
     same("verify of an older copy", house.run("verify", book=house.copy)[0], 0)
     status, out, _ = house.run("seal", "--first", str(len(seals) - 1), book=house.copy)
     same("the seal of an older copy", (status, out), (1, ""))
+    last = seals[-1].split()[0]
+    same("verify of an older copy by its seal", house.run("verify", "--seal", last, book=house.copy), (3, "", "fault 43 NotThisBook\n"))
     shutil.copy(house.book, house.copy)
     seq = change_a_byte(house.copy)
     same("verify of a changed byte", house.run("verify", book=house.copy), (0, f"ok {len(seals) - 1}\n", ""))
     same("the seal before it", house.run("seal", "--first", str(seq - 1), book=house.copy)[1], seals[seq - 1])
     if house.run("seal", "--first", str(seq), book=house.copy)[1] == seals[seq]:
         raise Wrong("a changed byte has the same seal")
+    same("verify of a changed byte by its seal", house.run("verify", "--seal", last, book=house.copy), (3, "", "fault 43 NotThisBook\n"))
 
 
 def main():

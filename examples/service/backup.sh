@@ -5,7 +5,7 @@
 #
 # The copy stands in FOLDER/DATE/, with its log, and keeps its name; DATE is as 2026-11-30T023000, in UTC. The exit status is 0 only where
 # `verify` said ok of it: until then the folder is FOLDER/DATE.unverified. Without a SERVICE, or with '' for it, nothing is stopped: then no command
-# may run and no server may have the book open. Where there is a SERVICE no command may run either: let inbox.sh run at another time.
+# may run and no server may have the book open. Where there is a SERVICE no command may run either: let `whx12 take` run at another time.
 #
 # After a copy was verified, the oldest folders are removed until KEEP (default 30) are left. It never removes or counts a folder whose name has
 # another form, a DATE.unverified among them: look at why that isn't verified, and remove it yourself. (An older script named each copy DATE, verified
@@ -74,7 +74,7 @@ done
 if [ -n "$last" ]; then
     noted=$(cat -- "$last")
     now=$(whx12 seal --first "${noted%%:*}" --book "$copy/${book##*/}") || now=
-    if [ "$now" != "$noted" ]; then fail "the book lacks an entry that was sealed in $last, or has another"; fi
+    if [ "${now%% *}" != "${noted%% *}" ]; then fail "the book lacks an entry that was sealed in $last, or has another"; fi
 fi
 whx12 seal --book "$copy/${book##*/}" >"$copy/seal"
 cat -- "$copy/seal"

@@ -13,6 +13,7 @@ mod InOrder
 mod ReadLemmas
 mod HouseRead
 mod MomentParts
+mod Addresses
 mod OwnEntries
 mod FoundRows
 mod HasEntries

@@ -1,11 +1,13 @@
 -- What the queries of running rows show of a row.
-use Rattle.std.specs.Prelude.{◌≡◌, ◌<◌, ◌^◌, ℕ, Bool, true, false, List, [], ◌∷◌, pos}
+use Rattle.std.specs.Prelude.{◌≡◌, ◌<◌, ◌^◌, ◌+◌, ℕ, Bool, true, false, List, [], ◌∷◌, pos, Option, option_map}
+use Rattle.std.specs.Borrow.{Bor}
 use Rattle.sqlite.specs.declared.types.Value.TheVariants.{Int, Text, Blob}
 use Rattle.sqlite.specs.Order.{Row, column}
 use Rattle.profile.specs.Means.{Line}
 use Rattle.profile.specs.Page.{PageAdvice, PageLine, PageOrder}
 use Rattle.profile.specs.Rows.{LotRow, OutRow}
-use Rattle.profile.specs.Tables.{flag, text_or_null, address_cells}
+use Rattle.profile.specs.Tables as cell
+use Rattle.profile.specs.Tables.{Cell, flag, text_or_null, address_cells}
 use Rattle.rules.specs.OutKind.{OutKind}
 use Rattle.rules.specs.OutKind.TheVariants.{Answer}
 use Rattle.store.specs.declared.rows.DocumentState.{DocumentState}
@@ -70,6 +72,20 @@ advice_shown a = Text a.shipment ∷ Text a.order ∷ value_of (flag a.is_open) 
 -- item, lot, quantity: of a line of an advice, and of what is reserved
 abbrev pub line_shown : Line → Row
 line_shown l = Text l.item ∷ Text l.lot ∷ Int (pos l.quantity) ∷ []
+
+-- the columns of a row from one on have these cells
+abbrev pub AreAt : Row → ℕ → List Cell → Type 0
+AreAt row at [] = Unit {0}
+AreAt row at (cell ∷ cells) = (column row at ≡ value_of cell) × AreAt row (at + 1) cells
+
+-- a text that may be NULL
+abbrev pub lent_text : Option (Bor (List ℕ)) → Option (List ℕ)
+lent_text text = option_map (λ t. t.now) text
+
+-- the last four cells of an order: to_name, which may be NULL, to_one, to_two and to_place
+abbrev pub to_cells : Option (List ℕ) → List ℕ → List ℕ → List ℕ → List Cell
+to_cells name one two place =
+    text_or_null name ∷ cell.Text one ∷ cell.Text two ∷ cell.Text place ∷ []
 
 -- an order but for its lines and what is reserved: ord, is_open, to_name, to_one, to_two, to_place
 abbrev pub order_shown : PageOrder → Row

@@ -1,30 +1,63 @@
-ghost use Rattle.std.specs.Prelude.{◌≡◌, ◌<◌, ◌^◌, List, Some, IfOk, map, option_map, true, length, IfSome, ◌≤◌};
+ghost use Rattle.std.specs.Prelude.{◌≡◌, ◌<◌, ◌^◌, ℕ, List, Option, Some, IfOk, map, option_map, true, length, IfSome, MatchOption, ◌≤◌};
 ghost use Rattle.std.specs.List.{list_all};
 ghost use Rattle.profile.specs.declared.rules.Rules.TheVariants.{Two};
+ghost use Rattle.profile.specs.Means.{Address as Told};
+ghost use Rattle.profile.specs.Tables.{address_cells, text_or_null};
 ghost use Rattle.profile.specs.Page.{PageLine, PageOrder, page_of};
 ghost use Rattle.profile.specs.Register as register;
 ghost use Rattle.rules.specs.Pages.{order_at};
 ghost use Rattle.rules.specs.Fitting.{is_fitting_ordered};
+ghost use Rattle.sqlite.specs.Order.{column};
+ghost use Rattle.book_statements.specs.Held.{value_of};
 ghost use Rattle.book_statements.specs.Asking.{Asked, OfStanding};
 ghost use Rattle.book_tables.specs.Looking.{bare_order, lines_ordered, lines_reserved};
-ghost use Rattle.book_tables.specs.Showing.{order_shown, order_line_shown};
+ghost use Rattle.book_tables.specs.Showing.{AreAt, lent_text, to_cells, order_shown, order_line_shown};
 
 use crate::connected::Tables;
 use crate::line_rows::lines_in;
-use crate::reading::{flag_at, small_at, text_at};
+use crate::reading::{flag_at, small_at, text_at, text_or_null_at};
 use rules::{Address, Goods, KnownLine, KnownOrder, Who};
 use sqlite::{Alter, Row};
 use std::alloc::{AllocError, Global};
 use store::Fault;
 
-// The address in the last four columns of a row of an order: none where the name is NULL, or
-// another than a text.
-fn address_in(alloc: Global, row: &Row) -> Result<Option<Option<Address>>, AllocError>
-    ensures { (o : PageOrder) → row.now ≡ order_shown o
-        → IfOk result (λ shown. shown ≡ Some o.address) }
+// The address that a name, which may be NULL, and three texts tell; None where they tell none:
+// without a name the others are empty.
+fn address_of(
+    alloc: Global,
+    name: Option<&[u8]>,
+    one: &[u8],
+    two: &[u8],
+    place: &[u8],
+) -> Result<Option<Option<Address>>, AllocError>
+    ensures { IfOk result (λ told. MatchOption told ((a : Option Told)
+        → address_cells a ≡ to_cells (lent_text name.entry) one.now two.now place.now → ⊥)
+        (λ a. address_cells a ≡ to_cells (lent_text name.entry) one.now two.now place.now)) }
 {
-    let Some(name) = text_at(row, 2) else {
-        return Ok(Some(None));
+    let Some(name) = name else {
+        if one.is_empty() && two.is_empty() && place.is_empty() {
+            return Ok(Some(None));
+        }
+        return Ok(None);
+    };
+    Ok(Some(Some(Address {
+        name: Vec::from_slice(alloc, name)?,
+        one: Vec::from_slice(alloc, one)?,
+        two: Vec::from_slice(alloc, two)?,
+        place: Vec::from_slice(alloc, place)?,
+    })))
+}
+
+// The address in the last four columns of a row of an order, if it has one; None where these show
+// neither an address nor that there is none.
+fn address_in(alloc: Global, row: &Row) -> Result<Option<Option<Address>>, AllocError>
+    ensures shows { (o : PageOrder) → row.now ≡ order_shown o
+        → IfOk result (λ shown. shown ≡ Some o.address) }
+    ensures only { IfOk result (λ shown. MatchOption shown ((a : Option Told)
+        → AreAt row.now 2 (address_cells a) → ⊥) (λ a. AreAt row.now 2 (address_cells a))) }
+{
+    let Some(name) = text_or_null_at(row, 2) else {
+        return Ok(None);
     };
     let Some(one) = text_at(row, 3) else {
         return Ok(None);
@@ -35,12 +68,7 @@ fn address_in(alloc: Global, row: &Row) -> Result<Option<Option<Address>>, Alloc
     let Some(place) = text_at(row, 5) else {
         return Ok(None);
     };
-    Ok(Some(Some(Address {
-        name: Vec::from_slice(alloc, name)?,
-        one: Vec::from_slice(alloc, one)?,
-        two: Vec::from_slice(alloc, two)?,
-        place: Vec::from_slice(alloc, place)?,
-    })))
+    address_of(alloc, name, one, two, place)
 }
 
 // The order that a row of ord, is_open and the address shows, but for its lines and what is
@@ -67,14 +95,21 @@ fn order_in(alloc: Global, row: &Row) -> Result<Option<KnownOrder>, AllocError>
     }))
 }
 
-// The lot that a line's row pins it to: none where it is another value than a text.
-fn pin_in(alloc: Global, row: &Row) -> Result<Option<Vec<u8>>, AllocError>
-    ensures { (l : PageLine) → row.now ≡ order_line_shown l
-        → IfOk result (λ pin. option_map (λ v. v.items) pin ≡ l.pin) }
+// The lot that a line's row pins it to, if it does; None where the column has another value than a
+// text or NULL.
+fn pin_in(alloc: Global, row: &Row) -> Result<Option<Option<Vec<u8>>>, AllocError>
+    ensures shows { (l : PageLine) → row.now ≡ order_line_shown l → IfOk result
+        (λ shown. option_map (λ pin. option_map (λ v. v.items) pin) shown ≡ Some l.pin) }
+    ensures only { IfOk result (λ shown. MatchOption shown ((pin : Option (List ℕ))
+        → 1 < length row.now → column row.now 1 ≡ value_of (text_or_null pin) → ⊥)
+        (λ pin. column row.now 1 ≡ value_of (text_or_null (option_map (λ v. v.items) pin)))) }
 {
-    match text_at(row, 1) {
-        Some(lot) => Ok(Some(Vec::from_slice(alloc, lot)?)),
-        None => Ok(None),
+    let Some(lot) = text_or_null_at(row, 1) else {
+        return Ok(None);
+    };
+    match lot {
+        Some(lot) => Ok(Some(Some(Vec::from_slice(alloc, lot)?))),
+        None => Ok(Some(None)),
     }
 }
 
@@ -89,7 +124,9 @@ fn order_line_in(alloc: Global, row: &Row) -> Result<Option<KnownLine>, AllocErr
     let Some(quantity) = small_at(row, 2) else {
         return Ok(None);
     };
-    let pin = pin_in(alloc, row)?;
+    let Some(pin) = pin_in(alloc, row)? else {
+        return Ok(None);
+    };
     Ok(Some(KnownLine {
         item: Vec::from_slice(alloc, item)?,
         pin,

@@ -1,17 +1,17 @@
-ghost use Rattle.std.specs.Prelude.{◌≡◌, ◌∷◌, [], ℕ, Bool, List, Some, true, false, MatchOption, IfSome, IsNone, pos, length, ◌≤◌, ◌<◌, ◌^◌};
+ghost use Rattle.std.specs.Prelude.{◌≡◌, ◌∷◌, [], ℕ, Bool, List, Option, Some, true, false, MatchOption, IfSome, IsNone, pos, length, ◌≤◌, ◌<◌, ◌^◌};
 ghost use Rattle.profile.specs.Header.{Who as Partner};
 ghost use Rattle.profile.specs.Bytes as bytes;
 ghost use Rattle.profile.specs.Moments.{Moment as Parts, is_moment};
 ghost use Rattle.profile.specs.Readings as written;
 ghost use Rattle.profile.specs.Rules.{rules_number};
-ghost use Rattle.profile.specs.Tables.{flag};
+ghost use Rattle.profile.specs.Tables.{flag, text_or_null};
 ghost use Rattle.sqlite.specs.Order.{column};
 ghost use Rattle.sqlite.specs.declared.types.Value.TheVariants.{Int, Text, Blob};
 ghost use Rattle.sqlite_value.specs.Value.{owned};
 ghost use Rattle.rules.specs.Written.{Written};
 ghost use Rattle.book_statements.specs.Held.{value_of};
 ghost use Rattle.book_statements.specs.Recorded.{IsHouse, rules_shown};
-ghost use Rattle.book_tables.specs.Showing.{is_state_of, IsSentAs};
+ghost use Rattle.book_tables.specs.Showing.{is_state_of, lent_text, IsSentAs};
 
 use profile::Rules;
 use rules::{Moment, OutKind, Warehouse, Who};
@@ -27,6 +27,19 @@ fn text_in(value: ValueRef<'_>) -> Option<&[u8]>
 {
     match value {
         ValueRef::Text(text) => Some(text),
+        _ => None,
+    }
+}
+
+// The text that a value is, if it isn't NULL; None where it is another value than these.
+fn text_or_null_in(value: ValueRef<'_>) -> Option<Option<&[u8]>>
+    ensures { MatchOption result ((text : Option (List ℕ))
+        → owned value.entry ≡ value_of (text_or_null text) → ⊥)
+        (λ text. owned value.entry ≡ value_of (text_or_null (lent_text text))) }
+{
+    match value {
+        ValueRef::Null => Some(None),
+        ValueRef::Text(text) => Some(Some(text)),
         _ => None,
     }
 }
@@ -61,6 +74,19 @@ pub(crate) fn text_at(row: &Row, at: usize) -> Option<&[u8]>
 {
     match row.get_ref(at) {
         Ok(value) => text_in(value),
+        Err(_) => None,
+    }
+}
+
+/// The text in a column, or that the column is NULL; None where it has another value, or there is
+/// no such column.
+pub(crate) fn text_or_null_at(row: &Row, at: usize) -> Option<Option<&[u8]>>
+    ensures { MatchOption result ((text : Option (List ℕ)) → at < length row.now
+        → column row.now at ≡ value_of (text_or_null text) → ⊥)
+        (λ text. column row.now at ≡ value_of (text_or_null (lent_text text))) }
+{
+    match row.get_ref(at) {
+        Ok(value) => text_or_null_in(value),
         Err(_) => None,
     }
 }

@@ -1,5 +1,6 @@
 mod KeepingLemmas
 mod AskedBooks
+mod ExtentLemmas
 mod GivenLemmas
 mod SealingLemmas
 mod RulesLemmas

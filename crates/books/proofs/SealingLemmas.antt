@@ -1,72 +1,90 @@
--- The seals of the first entries that are written down.
-use Rattle.std.proofs.Common.{◌≡◌, ◌<◌, ◌≤◌, ℕ, ◌+◌, zero, suc, Bool, true, false, List, [], ◌∷◌, ◌++◌, length, take, slice_get, Option, Some, None, refl, sym, ap, ◌∙◌, arith}
+-- What is noted of the first entries that are written down.
+use Rattle.std.proofs.Common.{◌≡◌, ◌<◌, ◌≤◌, ℕ, ◌+◌, zero, suc, Bool, true, false, List, [], ◌∷◌, ◌++◌, length, take, slice_get, min, Option, Some, None, refl, sym, ap, ◌∙◌, arith, length-take}
 use Rattle.std.specs.Prelude.{option_map, nat_le, if◌then◌else◌}
-use Rattle.std.proofs.lemmas.List.Sums.{fold_more}
+use Rattle.profile.specs.Moments.{Moment}
 use Rattle.profile.specs.Register.{Entry}
-use Rattle.rules.specs.Written.{Written}
+use Rattle.rules.specs.Written.{Written, written}
 use Rattle.store.specs.Replayed.{all_written, written_on}
+use Rattle.store.proofs.Entries.{there_on}
 use Rattle.book_statements.specs.Recorded.{written_at}
-use Rattle.seals.specs.Seals.{blank_seal, seal_after, seal_of, seal_of_first, seal_on}
-use Rattle.seals.proofs.Chains.{length-written_on, written_on-take}
+use Rattle.seals.specs.Noted.{noted_after, noted_of, noted_of_first}
+use Rattle.seals.proofs.Chains.{length-written_on}
+use Rattle.seals.proofs.Notings.{noted_added}
 use Rattle.books.proofs.GivenLemmas.{got}
 
--- so many are written down, and this is the seal of the first of them
-pub record IsSealed (i : ℕ) (seal : List ℕ) (L : List Entry) : Type 0 where
+-- there are so many entries, and this is noted of the first of them
+pub record IsNoted (i : ℕ) (n : ℕ × List ℕ × Option Moment) (L : List Entry) : Type 0 where
   pub fits : i ≤ length L
-  pub is : seal ≡ seal_on blank_seal (take i (all_written L))
+  pub is : n ≡ noted_of (take i L)
 
-pub none_sealed : (L : List Entry) → IsSealed 0 blank_seal L
-none_sealed L = record { fits = omega arith; is = refl }
+pub none_noted : (L : List Entry) (n : ℕ × List ℕ × Option Moment) → n ≡ noted_of [] → IsNoted 0 n L
+none_noted L n h = record { fits = omega arith; is = h }
+
+-- as many as were counted
+counted : (L : List Entry) (i : ℕ) (n : ℕ × List ℕ × Option Moment) → IsNoted i n L → n.0 ≡ i
+counted L i n h =
+    let same : n.0 ≡ length (take i L) = ap (λ (m : ℕ × List ℕ × Option Moment). m.0) h.is in
+    omega (arith, same, length-take i L, h.fits)
 
 -- one more
-one_more : (ws : List Written) (i : ℕ) (seal next : List ℕ) → seal ≡ seal_on blank_seal (take i ws) → (o : Option Written) → slice_get ws i ≡ o
-    → Some next ≡ option_map (seal_after seal) o → (i < length ws) × (next ≡ seal_on blank_seal (take (i + 1) ws))
-one_more ws i seal next is None at h = absurd (let e : ◌≡◌ {A = Option (List ℕ)} (Some next) None = h in cc)
-one_more ws i seal next is (Some w) at h =
-    let there = got ws i w at in
-    let e : next ≡ seal_after seal w = cc in (
-      there.0,
-      e ∙ ap (λ (s : List ℕ). seal_after s w) is ∙ ap (seal_after (seal_on blank_seal (take i ws))) there.1 ∙ sym (fold_more seal_after blank_seal ws i w there.0),
-    )
+one_more : (L : List Entry) (i : ℕ) (n next : ℕ × List ℕ × Option Moment) → IsNoted i n L → (o : Option Written) → slice_get (all_written L) i ≡ o
+    → Some next ≡ option_map (noted_after n) o → IsNoted (suc i) next L
+one_more L i n next was None at h = absurd (let e : ◌≡◌ {A = Option (ℕ × List ℕ × Option Moment)} (Some next) None = h in cc)
+one_more L i n next was (Some w) at h =
+    let there = got (all_written L) i w at in
+    let t = there_on [] L i w there.0 there.1 in
+    let e : next ≡ noted_after n w = cc in
+    record {
+      fits = omega (arith, there.0, length-written_on [] L);
+      is = e
+          ∙ (λ j. noted_after (was.is j) (t.1.row j))
+          ∙ sym (noted_added (take i L) t.0)
+          ∙ ap noted_of (sym t.1.more);
+    }
 
-pub next_sealed : (L : List Entry) (i : ℕ) (seal next : List ℕ) → IsSealed i seal L → Some next ≡ option_map (seal_after seal) (written_at (all_written L) (i + 1)) → IsSealed (i + 1) next L
-next_sealed L i seal next was h =
-    let at : i + 1 ≡ suc i = omega arith in
-    let both = one_more (all_written L) i seal next was.is (slice_get (all_written L) i) refl (h ∙ ap (λ (k : ℕ). option_map (seal_after seal) (written_at (all_written L) k)) at) in
-    record { fits = omega (arith, both.0, length-written_on [] L); is = both.1 }
+-- the entry under the number that follows on those that were counted
+at_next : (L : List Entry) (i : ℕ) (n : ℕ × List ℕ × Option Moment) → IsNoted i n L → n.0 + 1 ≡ suc i
+at_next L i n was = omega (arith, counted L i n was)
 
--- the seal of the first entries
-test_true : (b : Bool) (seal : List ℕ) → b ≡ true → (if b then Some seal else None) ≡ Some seal
-test_true b seal h = rw h refl
+pub next_noted : (L : List Entry) (i : ℕ) (n next : ℕ × List ℕ × Option Moment) → IsNoted i n L
+    → Some next ≡ option_map (noted_after n) (written_at (all_written L) (n.0 + 1)) → IsNoted (i + 1) next L
+next_noted L i n next was h =
+    let up : i + 1 ≡ suc i = omega arith in
+    let more = one_more L i n next was (slice_get (all_written L) i) refl (h ∙ ap (λ (k : ℕ). option_map (noted_after n) (written_at (all_written L) k)) (at_next L i n was)) in
+    record { fits = omega (arith, more.fits); is = more.is ∙ ap (λ (k : ℕ). noted_of (take k L)) (sym up) }
 
-test_false : (b : Bool) (seal : List ℕ) → b ≡ false → (if b then Some seal else None) ≡ None
-test_false b seal h = rw h refl
+-- what is noted of the first entries
+test_true : (b : Bool) (n : ℕ × List ℕ × Option Moment) → b ≡ true → (if b then Some n else None) ≡ Some n
+test_true b n h = rw h refl
 
-pub first_sealed : (L : List Entry) (n : ℕ) (seal : List ℕ) → IsSealed n seal L → Some seal ≡ seal_of_first n L
-first_sealed L n seal h =
-    let fits : nat_le n (length L) ≡ true = grind (arith, h.fits) in
-    ap Some (h.is ∙ ap (seal_on blank_seal) (sym (written_on-take [] L n))) ∙ sym (test_true (nat_le n (length L)) (seal_of (take n L)) fits)
+test_false : (b : Bool) (n : ℕ × List ℕ × Option Moment) → b ≡ false → (if b then Some n else None) ≡ None
+test_false b n h = rw h refl
+
+pub first_noted : (L : List Entry) (count : ℕ) (n : ℕ × List ℕ × Option Moment) → IsNoted count n L → Some n ≡ noted_of_first count L
+first_noted L count n h =
+    let fits : nat_le count (length L) ≡ true = grind (arith, h.fits) in
+    ap Some h.is ∙ sym (test_true (nat_le count (length L)) (noted_of (take count L)) fits)
 
 -- there are fewer
-pub none_first : (L : List Entry) (n : ℕ) → length L < n → None ≡ seal_of_first n L
-none_first L n lt =
-    let short : nat_le n (length L) ≡ false = grind (arith, lt) in
-    sym (test_false (nat_le n (length L)) (seal_of (take n L)) short)
+pub none_first : (L : List Entry) (count : ℕ) → length L < count → None ≡ noted_of_first count L
+none_first L count lt =
+    let short : nat_le count (length L) ≡ false = grind (arith, lt) in
+    sym (test_false (nat_le count (length L)) (noted_of (take count L)) short)
 
 past : (ws : List Written) (i : ℕ) → slice_get ws i ≡ None → length ws ≤ i
 past [] i h = omega arith
 past (w ∷ ws) zero h = absurd (let e : ◌≡◌ {A = Option Written} (Some w) None = h in cc)
 past (w ∷ ws) (suc i) h = omega (arith, past ws i h)
 
-none_next : (o : Option Written) (seal : List ℕ) → None ≡ option_map (seal_after seal) o → o ≡ None
-none_next None seal h = refl
-none_next (Some w) seal h = absurd (let e : ◌≡◌ {A = Option (List ℕ)} None (Some (seal_after seal w)) = h in cc)
+none_next : (o : Option Written) (n : ℕ × List ℕ × Option Moment) → None ≡ option_map (noted_after n) o → o ≡ None
+none_next None n h = refl
+none_next (Some w) n h = absurd (let e : ◌≡◌ {A = Option (ℕ × List ℕ × Option Moment)} None (Some (noted_after n w)) = h in cc)
 
-pub none_more : (L : List Entry) (i n : ℕ) (seal : List ℕ) → i < n → None ≡ option_map (seal_after seal) (written_at (all_written L) (i + 1)) → None ≡ seal_of_first n L
-none_more L i n seal lt h =
-    let at : i + 1 ≡ suc i = omega arith in
-    let none : slice_get (all_written L) i ≡ None = ap (written_at (all_written L)) (sym at) ∙ none_next (written_at (all_written L) (i + 1)) seal h in
-    none_first L n (omega (arith, past (all_written L) i none, length-written_on [] L, lt))
+pub none_more : (L : List Entry) (i count : ℕ) (n : ℕ × List ℕ × Option Moment) → i < count → IsNoted i n L
+    → None ≡ option_map (noted_after n) (written_at (all_written L) (n.0 + 1)) → None ≡ noted_of_first count L
+none_more L i count n lt was h =
+    let none : slice_get (all_written L) i ≡ None = ap (written_at (all_written L)) (sym (at_next L i n was)) ∙ none_next (written_at (all_written L) (n.0 + 1)) n h in
+    none_first L count (omega (arith, past (all_written L) i none, length-written_on [] L, lt))
 
 pub never_some : {A : Type 0} (o : Option A) → ((a : A) → o ≡ Some a → ⊥) → o ≡ None
 never_some None not = refl

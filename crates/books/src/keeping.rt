@@ -1,23 +1,47 @@
 //! A book in tables kept: what it answers to commands and to questions, each from its tables.
-ghost use Rattle.std.specs.Prelude.{◌≡◌, ◌≤◌, ◌<◌, ◌^◌, ◌-◌, ◌++◌, ◌∷◌, [], List, true, false, IfErr, IfOk, OnOk, OnErr, IsErrOf, option_map};
+ghost use Rattle.std.specs.Prelude.{◌≡◌, ◌≤◌, ◌<◌, ◌^◌, ◌-◌, ◌++◌, ◌∷◌, [], List, true, false, IfErr, IfOk, OnOk, OnErr, IsErrOf, length, option_map};
 ghost use Rattle.profile.specs.Decision as decided;
 ghost use Rattle.profile.specs.Register as register;
 ghost use Rattle.profile.specs.Rows.{stock_of, outbox_of};
 ghost use Rattle.rules.specs.Asked.{mark_of};
 ghost use Rattle.rules.specs.Decided.{IsAtRest, IsRecalled};
+ghost use Rattle.store.specs.Extent as meant;
+ghost use Rattle.store.specs.Extent.{extent_of, last_moment};
 ghost use Rattle.store.specs.Held.{IsHeld};
 ghost use Rattle.store.specs.Known.{first_under};
 ghost use Rattle.store.specs.Open.{open_of, open_on, enrolled};
 ghost use Rattle.store.specs.Sent.{text_of};
 ghost use Rattle.store.specs.Standing.{IsUsable, IsUnchanged, IsQuery, IsNext, IsFault, IsCommitFault, LeavesEither, GoesOn, OfAnyKept, OfKept, OfUsable};
-ghost use Rattle.book_statements.specs.Limits.{AreCounted};
+ghost use Rattle.book_statements.specs.Asking.{OfStanding, Went};
+ghost use Rattle.book_statements.specs.Limits.{AreCounted, Counts};
 ghost use Rattle.book_tables.specs.Needed.{needed_part};
 ghost use Rattle.books.specs.Opened.{standing_of};
 
 use crate::book::{Book, GREATEST};
-use rules::{Change, Entry, Key, Known, Need, Page, Warehouse, Who};
+use book_tables::Tables;
+use rules::{Change, Entry, Key, Known, Moment, Need, Page, Warehouse, Who};
 use sqlite::Alter;
-use store::{Fault, Keeper, OutRow, StockRow};
+use std::alloc::Global;
+use store::{Extent, Fault, Keeper, OutRow, StockRow};
+
+// The moment of the last of so many entries that tables hold; None where there are none.
+fn last_of<S: Alter + Drop>(
+    alloc: Global,
+    tables: &mut Tables<S>,
+    entries: u64,
+) -> Result<Option<Moment>, Fault>
+    ensures last { OfStanding S.Store tables.old tables.new
+        (λ W L. entries ≡ length L → IfOk result (λ last. last ≡ last_moment L)) }
+    ensures went { Went S.Store tables.old tables.new result }
+{
+    if entries > GREATEST {
+        return Err(Fault::OutOfMemory);
+    }
+    match tables.entry_at(alloc, entries)? {
+        Some(entry) => Ok(Some(entry.moment())),
+        None => Ok(None),
+    }
+}
 
 impl<S: Alter + Drop> Keeper for Book<S> {
     ghost use Rattle.books.specs.Opened.{standing_of};
@@ -184,6 +208,21 @@ impl<S: Alter + Drop> Keeper for Book<S> {
             return Err(Fault::Reopen);
         }
         self.tables.depositors(self.alloc)
+    }
+
+    fn extent(&mut self) -> Result<Extent, Fault>
+        ensures extent { OfAnyKept (standing_of S.Store self.old) (standing_of S.Store self.new)
+            (λ L. IfOk result (λ extent. meant.extent extent ≡ extent_of L)) }
+        ensures query { IsQuery (standing_of S.Store self.old) (standing_of S.Store self.new)
+            result }
+        ensures limit { Counts self.old.tables self.new.tables }
+    {
+        if self.shut {
+            return Err(Fault::Reopen);
+        }
+        let entries = self.entries;
+        let last = last_of(self.alloc, &mut self.tables, entries)?;
+        Ok(Extent { entries, last })
     }
 
     fn refused(&self) -> u64 {

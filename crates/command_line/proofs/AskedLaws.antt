@@ -3,7 +3,7 @@ use Rattle.std.proofs.Common.{◌≡◌, ◌∙◌, sym, subst, refl, true, fals
 use Rattle.std.proofs.lemmas.Slice.Eq.{bytes_eq-Decides}
 use Rattle.std.specs.Prelude.{IsErrAnd}
 use Rattle.clap.specs.Walk.{Row, Text}
-use Rattle.command_line.specs.Asked.{Found, Has, IsThere, HasAll, LacksMemory, Reads, ReadsNumber, SaysNumberOf, SaysService, SaysAct, SaysShow, SaysTask, SaysPart, act_name, takes_server}
+use Rattle.command_line.specs.Asked.{Found, Has, IsThere, HasAll, LacksMemory, Reads, ReadsNumber, SaysNumberOf, SaysService, SaysAct, SaysShow, SaysTask, SaysPart, SaysHandOn, Lacks, act_name, takes_server}
 use Rattle.command_line.specs.declared.words.LineFault.{LineFault}
 use Rattle.command_line.specs.declared.words.Service.{Service}
 use Rattle.command_line.specs.declared.words.Task.{Task}
@@ -79,34 +79,39 @@ act_has : (f : Found) (a : BookAct) → SaysAct f a → HasAll f
 act_has f (act.Enrol who) s = named f.1 s.0 ((λ _. (who.now, s.1)), (may, tt))
 act_has f (act.Roster file) s = named f.1 s.0 ((λ _. (file.now, s.1)), (may, tt))
 act_has f (act.Send file) s = named f.1 s.0 ((λ _. (file.now, s.1)), (may, tt))
-act_has f (act.Take dir) s = named f.1 s.0 ((λ _. (dir.now, s.1)), (may, tt))
+act_has f (act.Take dir to) s = named f.1 s.0 ((λ _. (dir.now, s.1)), (may, (may, tt)))
 act_has f (act.Clerk t) s = named f.1 s.0 (clerk_has f.1 t.kind t.who.now t.ticket.now t.number.now t.sheet.now s.1.0 s.1.1 s.1.2 s.1.3)
 
 show_has : (f : Found) (s : Show) → SaysShow f s → HasAll f
 show_has f (show.Stock who is_csv) s = named f.1 s.0 ((λ _. (who.now, s.1)), (may, (may, tt)))
 show_has f (show.Open who) s = named f.1 s.0 ((λ _. (who.now, s.1)), (may, tt))
 show_has f (show.Order who number) s = named f.1 s.0 ((λ _. (who.now, s.1)), ((λ _. (number.now, s.2)), (may, tt)))
-show_has f (show.Outbox who number) s = named f.1 s.0 ((λ _. (who.now, s.1)), (may, (may, tt)))
+show_has f (show.Outbox who number) s = named f.1 s.0 ((λ _. (who.now, s.1)), (may, (may, (may, tt))))
 show_has f show.Depositors s = named f.1 s (may, tt)
+
+hand_on_has : (f : Found) (who dir : Text) → SaysHandOn f who dir → HasAll f
+hand_on_has f who dir s = named f.1 s.0 ((λ _. (who, s.1)), (may, (may, (may, tt))))
 
 pub part_has : (f : Found) (t : Task) → SaysPart f t → HasAll f
 part_has f (task.Act a at) s = act_has f a s
 part_has f (task.Show a) s = show_has f a s
+part_has f (task.HandOn who dir) s = hand_on_has f who.now dir.now s
 part_has f (task.Init who) s = absurd s
 part_has f (task.Batch file) s = absurd s
 part_has f (task.Serve service at) s = absurd s
-part_has f task.Verify s = absurd s
+part_has f (task.Verify seal) s = absurd s
 part_has f (task.Seal first) s = absurd s
 
 pub task_has : (f : Found) (t : Task) → SaysTask f t → HasAll f
 task_has f (task.Init who) s = named f.1 s.0 ((λ _. (who.now, s.1)), (may, tt))
 task_has f (task.Act a at) s = act_has f a s.0
 task_has f (task.Show a) s = show_has f a s
+task_has f (task.HandOn who dir) s = hand_on_has f who.now dir.now s
 task_has f (task.Batch file) s = named f.1 s.0 ((λ _. (file.now, s.1)), tt)
 task_has f (task.Serve service at) s =
     let listen = s.1.0.0 in
     named f.1 s.0 ((λ _. (listen.0, listen.1)), (may, (may, (may, (may, (may, (may, (may, (may, tt)))))))))
-task_has f task.Verify s = named f.1 s (may, tt)
+task_has f (task.Verify seal) s = named f.1 s.0 (may, (may, tt))
 task_has f (task.Seal first) s = named f.1 s.0 (may, (may, tt))
 
 -- the name of what is asked for
@@ -124,7 +129,7 @@ module _ {A : Type 0} (f : Found) {b : Text} where
   no_act is e r s t c p x (act.Enrol who) says = elsewhere says.0 is e
   no_act is e r s t c p x (act.Roster file) says = elsewhere says.0 is r
   no_act is e r s t c p x (act.Send file) says = elsewhere says.0 is s
-  no_act is e r s t c p x (act.Take dir) says = elsewhere says.0 is t
+  no_act is e r s t c p x (act.Take dir to) says = elsewhere says.0 is t
   no_act is e r s t c p x (act.Clerk clerk) says = clerk_name clerk.kind says.0 is c p x
 
   -- nothing that is shown has it
@@ -143,31 +148,57 @@ show_number f (show.Order who number) s is = elsewhere s.0 is refl
 show_number f (show.Outbox who number) s is = (number, s.2)
 show_number f show.Depositors s is = elsewhere s is refl
 
-pub part_number : (f : Found) (t : Task) → SaysPart f t → f.0 ≡ codes "outbox" → ReadsNumber f.1
-part_number f (task.Act a at) s is = no_act f is refl refl refl refl refl refl refl a s
-part_number f (task.Show a) s is = show_number f a s is
-part_number f (task.Init who) s is = absurd s
-part_number f (task.Batch file) s is = absurd s
-part_number f (task.Serve service at) s is = absurd s
-part_number f task.Verify s is = absurd s
-part_number f (task.Seal first) s is = absurd s
+-- what is there isn't lacking
+lacking : {A : Type 0} (rows : List Row) (id value : Text) → Has rows id value → Lacks rows id → A
+lacking rows id value has lacks = absurd (let d : ◌≡◌ {A = Option Text} (Some value) None = sym has ∙ lacks in cc)
+
+pub part_number : (f : Found) (t : Task) → SaysPart f t → Lacks f.1 (codes "into") → f.0 ≡ codes "outbox" → ReadsNumber f.1
+part_number f (task.Act a at) s lacks is = no_act f is refl refl refl refl refl refl refl a s
+part_number f (task.Show a) s lacks is = show_number f a s is
+part_number f (task.HandOn who dir) s lacks is = lacking f.1 (codes "into") dir.now s.2 lacks
+part_number f (task.Init who) s lacks is = absurd s
+part_number f (task.Batch file) s lacks is = absurd s
+part_number f (task.Serve service at) s lacks is = absurd s
+part_number f (task.Verify seal) s lacks is = absurd s
+part_number f (task.Seal first) s lacks is = absurd s
+
+show_into : {A : Type 0} (f : Found) (a : Show) (dir : Text) → SaysShow f a → f.0 ≡ codes "outbox" → Has f.1 (codes "into") dir → A
+show_into f (show.Stock who is_csv) dir s is has = elsewhere s.0 is refl
+show_into f (show.Open who) dir s is has = elsewhere s.0 is refl
+show_into f (show.Order who number) dir s is has = elsewhere s.0 is refl
+show_into f (show.Outbox who number) dir s is has = lacking f.1 (codes "into") dir has s.3
+show_into f show.Depositors dir s is has = elsewhere s is refl
+
+-- where documents are handed on, what must be there is there, and no number
+pub part_into : (f : Found) (t : Task) (dir : Text) → SaysPart f t → f.0 ≡ codes "outbox" → Has f.1 (codes "into") dir
+    → HasAll f × Lacks f.1 (codes "number")
+part_into f (task.Act a at) dir s is has = no_act f is refl refl refl refl refl refl refl a s
+part_into f (task.Show a) dir s is has = show_into f a dir s is has
+part_into f (task.HandOn who other) dir s is has = (hand_on_has f who.now other.now s, s.3)
+part_into f (task.Init who) dir s is has = absurd s
+part_into f (task.Batch file) dir s is has = absurd s
+part_into f (task.Serve service at) dir s is has = absurd s
+part_into f (task.Verify seal) dir s is has = absurd s
+part_into f (task.Seal first) dir s is has = absurd s
 
 pub task_service : (f : Found) (t : Task) → SaysTask f t → f.0 ≡ codes "serve" → (service : Service) × SaysService f.1 service
 task_service f (task.Init who) s is = elsewhere s.0 is refl
 task_service f (task.Act a at) s is = no_act f is refl refl refl refl refl refl refl a s.0
 task_service f (task.Show a) s is = no_show f is refl refl refl refl refl a s
+task_service f (task.HandOn who dir) s is = elsewhere s.0 is refl
 task_service f (task.Batch file) s is = elsewhere s.0 is refl
 task_service f (task.Serve service at) s is = (service, s.1)
-task_service f task.Verify s is = elsewhere s is refl
+task_service f (task.Verify seal) s is = elsewhere s.0 is refl
 task_service f (task.Seal first) s is = elsewhere s.0 is refl
 
 pub no_script : (f : Found) (t : Task) → SaysTask f t → f.0 ≡ codes "script" → ⊥
 no_script f (task.Init who) s is = elsewhere s.0 is refl
 no_script f (task.Act a at) s is = no_act f is refl refl refl refl refl refl refl a s.0
 no_script f (task.Show a) s is = no_show f is refl refl refl refl refl a s
+no_script f (task.HandOn who dir) s is = elsewhere s.0 is refl
 no_script f (task.Batch file) s is = elsewhere s.0 is refl
 no_script f (task.Serve service at) s is = elsewhere s.0 is refl
-no_script f task.Verify s is = elsewhere s is refl
+no_script f (task.Verify seal) s is = elsewhere s.0 is refl
 no_script f (task.Seal first) s is = elsewhere s.0 is refl
 
 -- what the program has for itself has a name of its own
@@ -176,9 +207,10 @@ pub part_of : (f : Found) (t : Task) → SaysTask f t → (f.0 ≡ codes "init" 
 part_of f (task.Init who) s i e v l b = absurd (i s.0)
 part_of f (task.Act a at) s i e v l b = s.0
 part_of f (task.Show a) s i e v l b = s
+part_of f (task.HandOn who dir) s i e v l b = s
 part_of f (task.Batch file) s i e v l b = absurd (b s.0)
 part_of f (task.Serve service at) s i e v l b = absurd (e s.0)
-part_of f task.Verify s i e v l b = absurd (v s)
+part_of f (task.Verify seal) s i e v l b = absurd (v s.0)
 part_of f (task.Seal first) s i e v l b = absurd (l s.0)
 
 -- and no server is asked for it

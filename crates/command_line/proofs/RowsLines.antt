@@ -44,7 +44,10 @@ of_the_program =
     ∷ (codes "verify" ∷ codes "--book" ∷ codes "harbor.book" ∷ [])
     ∷ (codes "verify" ∷ codes "--wary" ∷ codes "--book" ∷ codes "harbor.book" ∷ [])
     ∷ (codes "seal" ∷ codes "--first" ∷ codes "46" ∷ codes "--book" ∷ codes "harbor.book" ∷ [])
-    ∷ (codes "seal" ∷ codes "--book" ∷ codes "harbor.book" ∷ []) ∷ []
+    ∷ (codes "seal" ∷ codes "--book" ∷ codes "harbor.book" ∷ [])
+    ∷ (codes "take" ∷ codes "in" ∷ codes "--done" ∷ codes "done" ∷ codes "--book" ∷ codes "harbor.book" ∷ [])
+    ∷ (codes "outbox" ∷ codes "ZZ-ACME" ∷ codes "--into" ∷ codes "out" ∷ codes "--server" ∷ codes "unix:/run/whx12.sock" ∷ [])
+    ∷ (codes "verify" ∷ codes "--seal" ∷ codes "0:00" ∷ codes "--book" ∷ codes "harbor.book" ∷ []) ∷ []
 
 abbrev not_of_the_program : List (List Text)
 not_of_the_program =

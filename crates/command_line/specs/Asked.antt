@@ -1,5 +1,5 @@
 -- What a line of words asks for, and what one that can be read is refused for.
-use Rattle.std.specs.Prelude.{◌≡◌, ◌⊎◌, ℕ, Bool, true, false, ◌||◌, List, [], ◌∷◌, ⊤, Option, Some, None, MatchOption, IsTrue, Result, IfOk, IfErr, is_some, option_map, codes, bytes_eq}
+use Rattle.std.specs.Prelude.{◌≡◌, ◌⊎◌, ℕ, Bool, true, false, ◌||◌, List, [], ◌∷◌, ◌++◌, ⊤, Option, Some, None, MatchOption, IsTrue, Result, IfOk, IfErr, is_some, option_map, codes, bytes_eq}
 use Rattle.std.specs.Borrow.{Bor}
 use Rattle.std.specs.Net.Addr.{MatchIp, IsLoopbackV4, IsLoopbackV6}
 use Rattle.std.specs.Net.Grammar.{IsSocketText}
@@ -13,6 +13,8 @@ use Rattle.profile.specs.Moments.{Moment}
 use Rattle.command_line.specs.Written.{moment_of, number_of, count_of, wait_of}
 use Rattle.command_line.specs.declared.words.Place.{Place}
 use Rattle.command_line.specs.declared.words.Place.TheVariants as place
+use Rattle.command_line.specs.declared.words.Endpoint.{Endpoint}
+use Rattle.command_line.specs.declared.words.Endpoint.TheVariants.{Inet, Unix}
 use Rattle.command_line.specs.declared.words.Opening.{Opening}
 use Rattle.command_line.specs.declared.words.Words.{Words}
 use Rattle.command_line.specs.declared.words.Words.TheVariants as words
@@ -72,6 +74,10 @@ act_name Count = codes "count"
 act_name Pick = codes "pick"
 act_name Recount = codes "recount"
 
+-- the line says this as this option, or it doesn't have it
+abbrev pub SaysText : List Row → Text → Option (Bor Text) → Type 0
+SaysText rows id text = first_of id rows ≡ option_map (λ b. b.now) text
+
 -- the number of the advice or the order, which a recount doesn't have
 abbrev pub SaysNumberOf : SheetKind → List Row → Text → Type 0
 SaysNumberOf Recount rows number = number ≡ []
@@ -85,7 +91,8 @@ abbrev pub SaysAct : Found → BookAct → Type 0
 SaysAct f (act.Enrol who) = (f.0 ≡ codes "enrol") × Has f.1 (codes "who") who.now
 SaysAct f (act.Roster file) = (f.0 ≡ codes "roster") × Has f.1 (codes "file") file.now
 SaysAct f (act.Send file) = (f.0 ≡ codes "send") × Has f.1 (codes "file") file.now
-SaysAct f (act.Take dir) = (f.0 ≡ codes "take") × Has f.1 (codes "dir") dir.now
+SaysAct f (act.Take dir to) = (f.0 ≡ codes "take") × Has f.1 (codes "dir") dir.now
+    × SaysText f.1 (codes "done") to
 SaysAct f (act.Clerk t) = (f.0 ≡ act_name t.kind) × SaysWords f.1 t
 
 abbrev pub SaysShow : Found → Show → Type 0
@@ -95,42 +102,59 @@ SaysShow f (show.Open who) = (f.0 ≡ codes "open") × Has f.1 (codes "who") who
 SaysShow f (show.Order who number) = (f.0 ≡ codes "orders") × Has f.1 (codes "who") who.now
     × Has f.1 (codes "number") number.now
 SaysShow f (show.Outbox who number) = (f.0 ≡ codes "outbox") × Has f.1 (codes "who") who.now
-    × SaysNumber f.1 number
+    × SaysNumber f.1 number × Lacks f.1 (codes "into")
 SaysShow f show.Depositors = f.0 ≡ codes "depositors"
 
--- an address is written as std's grammar has it: an IP address, a colon and a port
-abbrev pub SaysAddress : List Row → Text → SocketAddr → Type 0
-SaysAddress rows id address = (text : Text) × Has rows id text × IsSocketText text address
+-- the path of a socket in the file system is written so, as `unix:/run/whx12.sock`
+abbrev pub IsPathText : Text → Text → Type 0
+IsPathText text path = text ≡ codes "unix:" ++ path
+
+-- where a server listens is written so: such a path, or an address as std's grammar has it, an IP
+-- address, a colon and a port
+abbrev pub IsEndpointText : Text → Endpoint → Type 0
+IsEndpointText text (Inet address) = ((path : Text) → IsPathText text path → ⊥)
+    × IsSocketText text address
+IsEndpointText text (Unix path) = IsPathText text path.now
+
+abbrev pub SaysEndpoint : List Row → Text → Endpoint → Type 0
+SaysEndpoint rows id endpoint = (text : Text) × Has rows id text × IsEndpointText text endpoint
 
 -- this machine alone reaches the address
 abbrev pub IsLoopback : SocketAddr → Type 0
 IsLoopback address = MatchIp (socket_ip address) IsLoopbackV4 IsLoopbackV6
 
+-- this machine alone reaches it; a socket in the file system whoever its rights let
+abbrev pub IsNear : Endpoint → Type 0
+IsNear (Inet address) = IsLoopback address
+IsNear (Unix path) = ⊤
+
 -- an address that other machines reach is listened at where the line says so
-abbrev pub MayListen : List Row → SocketAddr → Type 0
-MayListen rows address = IsLoopback address ⊎ IsTrue (has_flag rows (codes "anyone"))
+abbrev pub MayListen : List Row → Endpoint → Type 0
+MayListen rows endpoint = IsNear endpoint ⊎ IsTrue (has_flag rows (codes "anyone"))
 
-abbrev pub IsGuarded : List Row → SocketAddr → Type 0
-IsGuarded rows address = SaysAddress rows (codes "listen") address × MayListen rows address
-
--- the line says this as this option, or it doesn't have it
-abbrev pub SaysText : List Row → Text → Option (Bor Text) → Type 0
-SaysText rows id text = first_of id rows ≡ option_map (λ b. b.now) text
+abbrev pub IsGuarded : List Row → Endpoint → Type 0
+IsGuarded rows endpoint = SaysEndpoint rows (codes "listen") endpoint × MayListen rows endpoint
 
 abbrev pub SaysService : List Row → Service → Type 0
-SaysService rows s = IsGuarded rows s.address
+SaysService rows s = IsGuarded rows s.endpoint
     × SaysFew rows (codes "count") s.count × SaysFew rows (codes "patience") s.patience
     × SaysFew rows (codes "peers") s.peers
     × (s.clerks ≡ has_flag rows (codes "clerks"))
     × SaysText rows (codes "host") s.hosts × SaysText rows (codes "from") s.from
 
+-- the documents of a depositor are to be written to the files of a folder
+abbrev pub SaysHandOn : Found → Text → Text → Type 0
+SaysHandOn f who dir = (f.0 ≡ codes "outbox") × Has f.1 (codes "who") who
+    × Has f.1 (codes "into") dir × Lacks f.1 (codes "number")
+
 abbrev pub SaysTask : Found → Task → Type 0
 SaysTask f (task.Init who) = (f.0 ≡ codes "init") × Has f.1 (codes "who") who.now
 SaysTask f (task.Act a at) = SaysAct f a × SaysMoment f.1 at
 SaysTask f (task.Show s) = SaysShow f s
+SaysTask f (task.HandOn who dir) = SaysHandOn f who.now dir.now
 SaysTask f (task.Batch file) = (f.0 ≡ codes "batch") × Has f.1 (codes "file") file.now
 SaysTask f (task.Serve s at) = (f.0 ≡ codes "serve") × SaysService f.1 s × SaysMoment f.1 at
-SaysTask f task.Verify = f.0 ≡ codes "verify"
+SaysTask f (task.Verify seal) = (f.0 ≡ codes "verify") × SaysText f.1 (codes "seal") seal
 SaysTask f (task.Seal first) = (f.0 ≡ codes "seal") × SaysText f.1 (codes "first") first
 
 -- what it says of a moment, if anything, can be read
@@ -159,9 +183,9 @@ has_book place.Script book = true
 abbrev pub NamesBook : Place → List Row → Option (Bor Text) → Type 0
 NamesBook p rows book = SaysBook rows book × (has_book p book ≡ true)
 
--- the line names the server at this address, or none
-abbrev pub SaysServer : List Row → Option SocketAddr → Type 0
-SaysServer rows (Some address) = SaysAddress rows (codes "server") address
+-- the line names the server that listens there, or none
+abbrev pub SaysServer : List Row → Option Endpoint → Type 0
+SaysServer rows (Some endpoint) = SaysEndpoint rows (codes "server") endpoint
 SaysServer rows None = Lacks rows (codes "server")
 
 -- the book is the server's, and so are the moment and how the book is opened
@@ -231,6 +255,7 @@ Asks f = (t : Task) × SaysTask f t
 abbrev pub SaysPart : Found → Task → Type 0
 SaysPart f (task.Act a at) = SaysAct f a
 SaysPart f (task.Show s) = SaysShow f s
+SaysPart f (task.HandOn who dir) = SaysHandOn f who.now dir.now
 SaysPart f _ = ⊥
 
 abbrev pub AsksOver : Place → Found → Type 0

@@ -63,7 +63,8 @@ abbrev pub send_shape : Shape
 send_shape = subcommand (codes "send") (file_rule ∷ at_rule ∷ [])
 
 abbrev pub take_shape : Shape
-take_shape = subcommand (codes "take") (value_rule (codes "dir") ∷ at_rule ∷ [])
+take_shape = subcommand (codes "take") (value_rule (codes "dir") ∷ option_rule (codes "done")
+    ∷ at_rule ∷ [])
 
 abbrev pub count_shape : Shape
 count_shape = subcommand (codes "count") (who_rule ∷ ticket_rule ∷ number_rule ∷ sheet_rule
@@ -86,7 +87,8 @@ abbrev pub orders_shape : Shape
 orders_shape = subcommand (codes "orders") (who_rule ∷ number_rule ∷ at_rule ∷ [])
 
 abbrev pub outbox_shape : Shape
-outbox_shape = subcommand (codes "outbox") (who_rule ∷ option_rule (codes "number") ∷ at_rule ∷ [])
+outbox_shape = subcommand (codes "outbox") (who_rule ∷ option_rule (codes "number")
+    ∷ option_rule (codes "into") ∷ at_rule ∷ [])
 
 abbrev pub depositors_shape : Shape
 depositors_shape = subcommand (codes "depositors") (at_rule ∷ [])
@@ -98,7 +100,7 @@ serve_shape = subcommand (codes "serve") (wanted_rule (codes "listen") ∷ optio
     ∷ flag_rule (codes "anyone") ∷ flag_rule (codes "clerks") ∷ at_rule ∷ [])
 
 abbrev pub verify_shape : Shape
-verify_shape = subcommand (codes "verify") (at_rule ∷ [])
+verify_shape = subcommand (codes "verify") (option_rule (codes "seal") ∷ at_rule ∷ [])
 
 abbrev pub seal_shape : Shape
 seal_shape = subcommand (codes "seal") (option_rule (codes "first") ∷ at_rule ∷ [])

@@ -15,4 +15,6 @@ mod words;
 
 pub use reading::line;
 pub use rosters::depositors;
-pub use words::{BookAct, ClerkWords, LineFault, Opening, Place, Service, Show, Task, Words};
+pub use words::{
+    BookAct, ClerkWords, Endpoint, LineFault, Opening, Place, Service, Show, Task, Words,
+};

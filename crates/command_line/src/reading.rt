@@ -1,5 +1,5 @@
 //! A line of words read: what it asks for.
-ghost use Rattle.std.specs.Prelude.{◌≡◌, ◌≢◌, None, Some, IfOk, IfErr, IfSome, IfNone, codes, map};
+ghost use Rattle.std.specs.Prelude.{◌≡◌, ◌≢◌, None, Some, IfOk, IfErr, IfSome, IfNone, MatchOption, codes, map};
 ghost use Rattle.clap.specs.Matches.{found_of};
 ghost use Rattle.clap.specs.Values.{kind_of};
 ghost use Rattle.clap.specs.Walk.{rows_of};
@@ -8,15 +8,14 @@ ghost use Rattle.command_line.specs.Asked as meant;
 use crate::subcommands::parser;
 use crate::values::{
     book_of, given, has_flag, leaves_to_server, moment, number, opening, server, service_of,
-    text_of, usage,
+    text_of, usage, without,
 };
-use crate::words::{BookAct, ClerkWords, LineFault, Place, Show, Task, Words};
+use crate::words::{BookAct, ClerkWords, Endpoint, LineFault, Place, Show, Task, Words};
 use clap::ArgMatches;
 use clap::error::ErrorKind;
 use profile::SheetKind;
 use segments::Moment;
 use std::alloc::Global;
-use std::net::SocketAddr;
 
 // What the parser says: what is wrong, or the help that is asked for.
 fn refused(alloc: Global, error: &clap::Error) -> LineFault
@@ -114,10 +113,32 @@ fn act_of<'a>(
         },
         "take" => BookAct::Take {
             dir: given(alloc, values, "dir")?,
+            done: text_of(values, "done"),
         },
         _ => return clerk_act_of(alloc, name, values),
     };
     Ok(Some(act))
+}
+
+// What is shown of what went out to a depositor, with the values of its line.
+fn outbox_of<'a>(alloc: Global, values: &ArgMatches<'a>) -> Result<Show<'a>, LineFault>
+    ensures ok { IfOk result
+        (meant.SaysShow (codes "outbox", rows_of (found_of values.now))) }
+    ensures err { IfErr result (meant.LacksMemory
+        (meant.HasAll (codes "outbox", rows_of (found_of values.now))
+        × meant.ReadsNumber (rows_of (found_of values.now))
+        × meant.Lacks (rows_of (found_of values.now)) (codes "into"))) }
+{
+    without(
+        alloc,
+        values,
+        "into",
+        "--into and --number exclude each other\n",
+    )?;
+    Ok(Show::Outbox {
+        who: given(alloc, values, "who")?,
+        number: number(alloc, values)?,
+    })
 }
 
 // What a subcommand shows with its values; None where it shows nothing.
@@ -130,7 +151,8 @@ fn show_of<'a>(
         (meant.IsFoundOf (meant.SaysShow (name.now, rows_of (found_of values.now)))) }
     ensures err { IfErr result (meant.LacksMemory
         (meant.HasAll (name.now, rows_of (found_of values.now))
-        × (name.now ≡ codes "outbox" → meant.ReadsNumber (rows_of (found_of values.now))))) }
+        × (name.now ≡ codes "outbox" → meant.ReadsNumber (rows_of (found_of values.now))
+        × meant.Lacks (rows_of (found_of values.now)) (codes "into")))) }
 {
     let show = match name {
         "stock" => Show::Stock {
@@ -144,14 +166,42 @@ fn show_of<'a>(
             who: given(alloc, values, "who")?,
             number: given(alloc, values, "number")?,
         },
-        "outbox" => Show::Outbox {
-            who: given(alloc, values, "who")?,
-            number: number(alloc, values)?,
-        },
+        "outbox" => outbox_of(alloc, values)?,
         "depositors" => Show::Depositors,
         _ => return Ok(None),
     };
     Ok(Some(show))
+}
+
+// The task of a subcommand by which documents are handed on, with its values; None where it isn't
+// such a one.
+fn hand_on_of<'a>(
+    alloc: Global,
+    name: &str,
+    values: &ArgMatches<'a>,
+) -> Result<Option<Task<'a>>, LineFault>
+    ensures ok { IfOk result (λ found. MatchOption found
+        (name.now ≡ codes "outbox" → meant.Lacks (rows_of (found_of values.now)) (codes "into"))
+        (meant.SaysTask (name.now, rows_of (found_of values.now)))) }
+    ensures err { IfErr result (meant.LacksMemory ((t : _)
+        × meant.SaysPart (name.now, rows_of (found_of values.now)) t)) }
+{
+    if name != "outbox" {
+        return Ok(None);
+    }
+    let Some(dir) = text_of(values, "into") else {
+        return Ok(None);
+    };
+    without(
+        alloc,
+        values,
+        "number",
+        "--into and --number exclude each other\n",
+    )?;
+    Ok(Some(Task::HandOn {
+        who: given(alloc, values, "who")?,
+        dir,
+    }))
 }
 
 // What a subcommand changes of a book or shows of it with its values, at the moment that its line
@@ -170,6 +220,9 @@ fn part_task_of<'a>(
 {
     if let Some(act) = act_of(alloc, name, values)? {
         return Ok(Task::Act { act, at });
+    }
+    if let Some(task) = hand_on_of(alloc, name, values)? {
+        return Ok(task);
     }
     match show_of(alloc, name, values)? {
         Some(show) => Ok(Task::Show(show)),
@@ -198,7 +251,9 @@ fn task_at<'a>(
             service: service_of(alloc, values)?,
             at,
         },
-        "verify" => Task::Verify,
+        "verify" => Task::Verify {
+            seal: text_of(values, "seal"),
+        },
         "seal" => Task::Seal {
             first: text_of(values, "first"),
         },
@@ -264,7 +319,7 @@ fn remote<'a>(
     alloc: Global,
     name: &str,
     values: &ArgMatches<'a>,
-    server: SocketAddr,
+    server: Endpoint<'a>,
 ) -> Result<Words<'a>, LineFault>
     requires { meant.SaysServer (rows_of (found_of values.now)) (Some server) }
 

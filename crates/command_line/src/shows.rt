@@ -62,8 +62,8 @@ fn outbox<'a>(alloc: Global) -> Result<Command<'a>, AllocError>
         alloc,
         "outbox",
         "Lists what went out to a depositor, or prints one of those texts again",
-        "whx12 outbox WHO [--number N] (--book BOOK | --server ADDR)",
-        "Example: whx12 outbox ZZ-ACME --book harbor.book\nExample: whx12 outbox ZZ-ACME --number 4 --book harbor.book\nExample: whx12 outbox ZZ-ACME --server 127.0.0.1:8080\n\nIn the list ANS is an answer; of a document it says whether the depositor took it: open, accepted or refused.",
+        "whx12 outbox WHO [--number N | --into DIR] (--book BOOK | --server ADDR)",
+        "Example: whx12 outbox ZZ-ACME --book harbor.book\nExample: whx12 outbox ZZ-ACME --number 4 --book harbor.book\nExample: whx12 outbox ZZ-ACME --into out --book harbor.book\nExample: whx12 outbox ZZ-ACME --server 127.0.0.1:8080\n\nIn the list ANS is an answer; of a document it says whether the depositor took it: open, accepted or refused.",
     );
     let command = with(
         command,
@@ -72,6 +72,15 @@ fn outbox<'a>(alloc: Global) -> Result<Command<'a>, AllocError>
             "number",
             "N",
             "The number of one text, from 1 to 999999",
+        ),
+    );
+    let command = with(
+        command,
+        option(
+            alloc,
+            "into",
+            "DIR",
+            "The folder to which each document is written, as N.x12, if it isn't there yet",
         ),
     );
     with_at(alloc, command)

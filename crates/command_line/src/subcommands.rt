@@ -107,9 +107,18 @@ fn take<'a>(alloc: Global) -> Result<Command<'a>, AllocError>
         alloc,
         "take",
         "Hands in each file of a folder whose name ends .x12, and writes the answers beside them",
-        "whx12 take DIR --book BOOK [--at MOMENT]",
+        "whx12 take DIR [--done DONE] --book BOOK [--at MOMENT]",
         "Example: whx12 take inbox --book harbor.book\n\nThe answer to inbox/a.x12 is written to inbox/a.x12.ans. What became of each file is printed. Taking the folder again\nis safe: the same bytes get the same answer, and nothing is taken twice.",
         value(alloc, "dir", "DIR", "The folder with the interchanges"),
+    );
+    let command = with(
+        command,
+        option(
+            alloc,
+            "done",
+            "DONE",
+            "The folder below which what was taken is moved, with its answers",
+        ),
     );
     with_at(alloc, command)
 }
@@ -254,14 +263,20 @@ fn serve<'a>(alloc: Global) -> Result<Command<'a>, AllocError>
 fn verify<'a>(alloc: Global) -> Result<Command<'a>, AllocError>
     ensures { IfOk result (IsCommand meant.verify_shape) }
 {
-    subcommand(
+    let command = subcommand(
         alloc,
         "verify",
         "Says whether every table of the book is what its register gives",
-        "whx12 verify --book BOOK",
+        "whx12 verify [--seal N:DIGITS] --book BOOK",
         "Example: whx12 verify --book harbor.book\n\nThe command of each entry is given again to an empty book in memory, and every table is compared with that book's. Printed\nis: ok and the number of entries; a difference is: fault 43 NotThisBook. Nothing is written. Run it after a restore, before a\nyear is closed, and after a fault of the disk.",
-        at(alloc),
-    )
+        option(
+            alloc,
+            "seal",
+            "N:DIGITS",
+            "A seal that was noted: says too whether the first N entries are still those",
+        ),
+    );
+    with_at(alloc, command)
 }
 
 fn seal<'a>(alloc: Global) -> Result<Command<'a>, AllocError>

@@ -1,13 +1,12 @@
 //! The values of a line of words read, one by one.
-ghost use Rattle.std.specs.Prelude.{◌≡◌, IfOk, IfErr, codes};
-ghost use Rattle.std.specs.Net.Grammar.{IsSocketText};
+ghost use Rattle.std.specs.Prelude.{◌≡◌, IfOk, IfErr, MatchBool, codes};
 ghost use Rattle.clap.specs.Matches.{found_of};
 ghost use Rattle.clap.specs.Walk.{rows_of};
 ghost use Rattle.command_line.specs.Asked as meant;
 
 use crate::moments::moment_of;
 use crate::numbers::{count_of, number_of, wait_of};
-use crate::words::{LineFault, Opening, Place, Service};
+use crate::words::{Endpoint, LineFault, Opening, Place, Service};
 use clap::ArgMatches;
 use segments::Moment;
 use std::alloc::Global;
@@ -66,26 +65,29 @@ pub(crate) fn given<'a>(
     }
 }
 
-// The address that a text writes; the fault where it writes none.
-fn address_in(alloc: Global, text: &str, fault: &str) -> Result<SocketAddr, LineFault>
-    ensures { meant.Reads (IsSocketText text.now) result }
+// Where a server listens, as a text writes it; the fault where it writes nothing of the kind.
+fn endpoint_in<'a>(alloc: Global, text: &'a str, fault: &str) -> Result<Endpoint<'a>, LineFault>
+    ensures { meant.Reads (meant.IsEndpointText text.now) result }
 {
+    if let Some(path) = text.strip_prefix("unix:") {
+        return Ok(Endpoint::Unix(path));
+    }
     match SocketAddr::parse_ascii(text.as_bytes()) {
-        Ok(address) => Ok(address),
+        Ok(address) => Ok(Endpoint::Inet(address)),
         Err(_) => Err(usage(alloc, fault)),
     }
 }
 
-// The address that a line says that a book is served at.
-fn address(alloc: Global, values: &ArgMatches<'_>) -> Result<SocketAddr, LineFault>
+// Where a line says that a book is served.
+fn endpoint<'a>(alloc: Global, values: &ArgMatches<'a>) -> Result<Endpoint<'a>, LineFault>
     ensures { meant.Reads
-        (meant.SaysAddress (rows_of (found_of values.now)) (codes "listen")) result }
+        (meant.SaysEndpoint (rows_of (found_of values.now)) (codes "listen")) result }
 {
     let text = given(alloc, values, "listen")?;
-    address_in(
+    endpoint_in(
         alloc,
         text,
-        "--listen wants an IP address and a port, as 127.0.0.1:8080\n",
+        "--listen wants an IP address and a port, as 127.0.0.1:8080, or unix: and a path\n",
     )
 }
 
@@ -108,14 +110,24 @@ fn few(
     }
 }
 
-// The address that a line says, if it may be listened at: other machines know a depositor by its
-// ISA alone, so one that they reach wants a word more.
-fn guarded_address(alloc: Global, values: &ArgMatches<'_>) -> Result<SocketAddr, LineFault>
+// Whether this machine alone reaches it, or whoever the rights of a socket let.
+fn is_near(endpoint: &Endpoint<'_>) -> bool
+    ensures { MatchBool result (meant.IsNear endpoint.now) (meant.IsNear endpoint.now → ⊥) }
+{
+    match endpoint {
+        Endpoint::Inet(address) => address.ip().is_loopback(),
+        Endpoint::Unix(_) => true,
+    }
+}
+
+// Where a line says that a book is served, if that may be: other machines know a depositor by its
+// ISA alone, so an address that they reach wants a word more.
+fn guarded_endpoint<'a>(alloc: Global, values: &ArgMatches<'a>) -> Result<Endpoint<'a>, LineFault>
     ensures { meant.Reads (meant.IsGuarded (rows_of (found_of values.now))) result }
 {
-    let address = address(alloc, values)?;
-    if address.ip().is_loopback() || has_flag(values, "anyone") {
-        return Ok(address);
+    let endpoint = endpoint(alloc, values)?;
+    if is_near(&endpoint) || has_flag(values, "anyone") {
+        return Ok(endpoint);
     }
     Err(usage(
         alloc,
@@ -138,7 +150,7 @@ pub(crate) fn service_of<'a>(
     ensures { meant.Reads (meant.SaysService (rows_of (found_of values.now))) result }
 {
     Ok(Service {
-        address: guarded_address(alloc, values)?,
+        endpoint: guarded_endpoint(alloc, values)?,
         count: few(
             alloc,
             values,
@@ -173,22 +185,22 @@ pub(crate) fn has_flag(values: &ArgMatches<'_>, id: &str) -> bool
     }
 }
 
-/// The address of the server that a line asks, if it asks one.
-pub(crate) fn server(
+/// Where the server listens that a line asks, if it asks one.
+pub(crate) fn server<'a>(
     alloc: Global,
-    values: &ArgMatches<'_>,
-) -> Result<Option<SocketAddr>, LineFault>
+    values: &ArgMatches<'a>,
+) -> Result<Option<Endpoint<'a>>, LineFault>
     ensures { meant.Reads (meant.SaysServer (rows_of (found_of values.now))) result }
 {
     let Some(text) = values.get_str("server") else {
         return Ok(None);
     };
-    let address = address_in(
+    let endpoint = endpoint_in(
         alloc,
         text,
-        "--server wants an IP address and a port, as 127.0.0.1:8080\n",
+        "--server wants an IP address and a port, as 127.0.0.1:8080, or unix: and a path\n",
     )?;
-    Ok(Some(address))
+    Ok(Some(endpoint))
 }
 
 /// The file with a book that a line names. A line of the program that asks no server names one; a
@@ -232,8 +244,13 @@ pub(crate) fn opening(alloc: Global, values: &ArgMatches<'_>) -> Result<Opening,
     })
 }
 
-// The fault of a line that has a word which it is to lack.
-fn without(alloc: Global, values: &ArgMatches<'_>, id: &str, fault: &str) -> Result<(), LineFault>
+/// The fault of a line that has a word which it is to lack.
+pub(crate) fn without(
+    alloc: Global,
+    values: &ArgMatches<'_>,
+    id: &str,
+    fault: &str,
+) -> Result<(), LineFault>
     ensures { meant.Reads (λ nothing. meant.Lacks (rows_of (found_of values.now)) id.now) result }
 {
     match values.get_str(id) {

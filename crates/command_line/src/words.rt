@@ -3,7 +3,7 @@ ghost use Rattle.std.specs.Prelude.{◌≡◌};
 
 use profile::SheetKind;
 use segments::Moment;
-use std::alloc::AllocError;
+use std::alloc::{AllocError, Global};
 use std::net::SocketAddr;
 
 /// Where a line of words stands.
@@ -13,6 +13,25 @@ pub enum Place {
     Program,
     /// In a script.
     Script,
+}
+
+/// Where a server listens.
+#[derive(Clone, Copy)]
+pub enum Endpoint<'a> {
+    /// At an IP address and a port.
+    Inet(SocketAddr),
+    /// At a socket in the file system, by its path: the rights of that say who may call.
+    Unix(&'a str),
+}
+
+impl Endpoint<'_> {
+    /// Its text, as a line says it.
+    pub fn text(&self, alloc: Global) -> Result<String, AllocError> {
+        match self {
+            Endpoint::Inet(address) => address.to_string(alloc),
+            Endpoint::Unix(path) => ["unix:", *path].concat(alloc),
+        }
+    }
 }
 
 /// What a line of words asks for.
@@ -34,8 +53,8 @@ pub enum Words<'a> {
     },
     /// Ask a running server for something.
     Remote {
-        /// The IP address and port that it listens at.
-        server: SocketAddr,
+        /// Where it listens.
+        server: Endpoint<'a>,
         /// What is done, at no moment that the line says: `send`, `count`, `pick`, `recount`,
         /// `stock`, `open`, `orders`, `outbox` or `depositors`.
         task: Task<'a>,
@@ -68,6 +87,13 @@ pub enum Task<'a> {
     },
     /// Show something of the book.
     Show(Show<'a>),
+    /// Write each document that went out to a depositor to a file of a folder.
+    HandOn {
+        /// The depositor, as `QQ-ID`.
+        who: &'a str,
+        /// The folder's name.
+        dir: &'a str,
+    },
     /// Do what the lines of a file ask for, one after the other.
     Batch {
         /// The file's name.
@@ -81,7 +107,10 @@ pub enum Task<'a> {
         at: Option<Moment>,
     },
     /// Compare every table of the book with what its register gives.
-    Verify,
+    Verify {
+        /// The seal that the first entries are to have, with their number, if the line says it.
+        seal: Option<&'a str>,
+    },
     /// Tell the seal of the book.
     Seal {
         /// Of how many entries, the first ones, if the line says it.
@@ -92,8 +121,8 @@ pub enum Task<'a> {
 /// Where a book is served, and for how long.
 #[derive(Clone, Copy)]
 pub struct Service<'a> {
-    /// The IP address and port to listen at.
-    pub address: SocketAddr,
+    /// Where to listen.
+    pub endpoint: Endpoint<'a>,
     /// How many connections are served, 1 to 65535, if the line says it.
     pub count: Option<u16>,
     /// How many seconds a request is waited for, and again its response, 1 to 65535, if the line
@@ -132,6 +161,8 @@ pub enum BookAct<'a> {
     Take {
         /// The folder's name.
         dir: &'a str,
+        /// The folder below which what was taken is moved with its answers, if the line says it.
+        done: Option<&'a str>,
     },
     /// Tell what a clerk did.
     Clerk(ClerkWords<'a>),

@@ -29,7 +29,7 @@ act_not : (f : Found) (a : BookAct) → SaysAct f a → is_init f.0 ≡ false
 act_not f (act.Enrol who) s = ap is_init s.0
 act_not f (act.Roster file) s = ap is_init s.0
 act_not f (act.Send file) s = ap is_init s.0
-act_not f (act.Take dir) s = ap is_init s.0
+act_not f (act.Take dir to) s = ap is_init s.0
 act_not f (act.Clerk told) s = ap is_init s.0 ∙ kind_not told.kind
 
 show_not : (f : Found) (a : Show) → SaysShow f a → is_init f.0 ≡ false
@@ -45,7 +45,8 @@ named_so f (words.Over book opening (task.Act a at)) name i s = absurd i
 named_so f (words.Over book opening (task.Show a)) name i s = absurd i
 named_so f (words.Over book opening (task.Batch file)) name i s = absurd i
 named_so f (words.Over book opening (task.Serve a at)) name i s = absurd i
-named_so f (words.Over book opening task.Verify) name i s = absurd i
+named_so f (words.Over book opening (task.Verify seal)) name i s = absurd i
+named_so f (words.Over book opening (task.HandOn who dir)) name i s = absurd i
 named_so f (words.Over book opening (task.Seal first)) name i s = absurd i
 named_so f (words.Script file) name i s = absurd i
 named_so f (words.Remote server t) name i s = absurd i
@@ -59,7 +60,8 @@ alone f (words.Over book opening (task.Act a at)) s is none = clash f is (act_no
 alone f (words.Over book opening (task.Show a)) s is none = clash f is (show_not f a s.5)
 alone f (words.Over book opening (task.Batch file)) s is none = clash f is (ap is_init s.5.0)
 alone f (words.Over book opening (task.Serve a at)) s is none = clash f is (ap is_init s.5.0)
-alone f (words.Over book opening task.Verify) s is none = clash f is (ap is_init s.5)
+alone f (words.Over book opening (task.Verify seal)) s is none = clash f is (ap is_init s.5.0)
+alone f (words.Over book opening (task.HandOn who dir)) s is none = clash f is (ap is_init s.5.0)
 alone f (words.Over book opening (task.Seal first)) s is none = clash f is (ap is_init s.5.0)
 alone f (words.Script file) s is none = clash f is (ap is_init s.0)
 alone f (words.Remote server t) s is none = true≢false (sym s.2 ∙ ap takes_server is)
@@ -82,5 +84,6 @@ no_init book opening (task.Act a at) not name i = i
 no_init book opening (task.Show a) not name i = i
 no_init book opening (task.Batch file) not name i = i
 no_init book opening (task.Serve a at) not name i = i
-no_init book opening task.Verify not name i = i
+no_init book opening (task.Verify seal) not name i = i
+no_init book opening (task.HandOn who dir) not name i = i
 no_init book opening (task.Seal first) not name i = i

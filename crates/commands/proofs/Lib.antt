@@ -4,6 +4,7 @@ pub mod TellingLaws
 pub mod ShownLaws
 pub mod ActLaws
 pub mod EnrolLaws
+pub mod HandingLaws
 pub mod ClockLaws
 pub mod PlayingLaws
 pub mod TakesLaws

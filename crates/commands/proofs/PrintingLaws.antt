@@ -1,5 +1,5 @@
 -- Bytes that were printed, or a beginning of them.
-use Rattle.std.proofs.Common.{◌≡◌, ◌∙◌, ℕ, ◌+◌, ◌-◌, ◌<◌, List, [], ◌∷◌, ◌++◌, Option, Result, Ok, Err, OnErr, OnOk, length, take, drop, get_or, flat_map, refl, sym, ap, subst, arith, append-nil, append_assoc, length-drop, take-take, take-append-drop}
+use Rattle.std.proofs.Common.{◌≡◌, ◌∙◌, ℕ, ◌+◌, ◌-◌, ◌<◌, List, [], ◌∷◌, ◌++◌, Option, Result, Ok, Err, OnErr, OnOk, length, take, drop, get_or, flat_map, sym, ap, subst, arith, append-nil, append_assoc, length-drop, take-take, take-append-drop}
 use Rattle.std.proofs.lemmas.List.{drop-take, take_more}
 use Rattle.std.proofs.lemmas.Grind.{flat_map-append}
 use Rattle.std.proofs.Math.Seq.{take-length}

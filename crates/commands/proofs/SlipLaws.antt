@@ -96,7 +96,8 @@ pub made_any : (reads : Reads) (a : BookAct) (r : Ready) → IsMadeReady reads a
 made_any reads (act.Enrol who) (ready.Enrol w) h = h
 made_any reads (act.Roster file) (ready.Roster partners) h = (h.0, within_any reads file.now MOST_ROSTER h.0 h.1, h.2)
 made_any reads (act.Send file) (ready.Send bytes) h = tt
-made_any reads (act.Take dir) (ready.Take folder) h = h
+made_any reads (act.Take dir None) (ready.Take folder) h = h
+made_any reads (act.Take dir (Some done)) (ready.TakeInto inbox) h = h
 made_any reads (act.Clerk told) (ready.Clerk slip) h = slip_any reads told slip.who slip.words slip.text.items slip.sheet h
 made_any reads a r h = absurd h
 
@@ -104,5 +105,5 @@ pub unready_any : (reads : Reads) (a : BookAct) (r : Refusal) → IsUnready read
 unready_any reads (act.Enrol who) r h = h
 unready_any reads (act.Roster file) r h = (h.0, no_roster_any reads file.now h.1)
 unready_any reads (act.Send file) r h = absurd h
-unready_any reads (act.Take dir) r h = absurd h
+unready_any reads (act.Take dir to) r h = absurd h
 unready_any reads (act.Clerk told) r h = no_slip_any reads told r h

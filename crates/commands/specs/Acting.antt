@@ -10,6 +10,7 @@ use Rattle.commands.specs.Clerks.{command_of}
 use Rattle.commands.specs.Enrolling.{IsEnrolling}
 use Rattle.commands.specs.Stops.{IsStopped}
 use Rattle.commands.specs.Takes.{IsTaking}
+use Rattle.commands.specs.TakesInto.{IsInboxTaking}
 use Rattle.commands.specs.Telling.{IsPrinted, said_of, printed_of}
 use Rattle.commands.specs.declared.acts.Ready.{Ready}
 use Rattle.commands.specs.declared.acts.Ready.TheVariants as ready
@@ -43,6 +44,8 @@ IsPerformed old new (ready.Roster partners) t before later ending =
 IsPerformed old new (ready.Send bytes) t before later ending =
     IsHandedIn old new (Interchange bytes.items) t before later ending
 IsPerformed old new (ready.Take dir) t before later ending = IsTaking old new t before later ending
+IsPerformed old new (ready.TakeInto inbox) t before later ending =
+    IsInboxTaking old new t before later ending
 IsPerformed old new (ready.Clerk slip) t before later ending =
     IsHandedIn old new (command_of slip.who slip.words slip.sheet) t before later ending
 
@@ -64,5 +67,6 @@ IsSaidOf old new (ready.Roster partners) t before later ending =
 IsSaidOf old new (ready.Send bytes) t before later ending =
     IsSaid old new (Interchange bytes.items) t before later ending
 IsSaidOf old new (ready.Take dir) t before later ending = Unit {0}
+IsSaidOf old new (ready.TakeInto inbox) t before later ending = Unit {0}
 IsSaidOf old new (ready.Clerk slip) t before later ending =
     IsSaid old new (command_of slip.who slip.words slip.sheet) t before later ending

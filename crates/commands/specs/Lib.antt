@@ -7,9 +7,11 @@ pub mod Stops
 pub mod Clerks
 pub mod Acting
 pub mod Readying
+pub mod HandingOn
 pub mod Looking
 pub mod Refused
 pub mod Takes
+pub mod TakesInto
 pub mod Enrolling
 pub mod Clock
 pub mod Serving

@@ -35,7 +35,9 @@ IsMadeReady reads (act.Enrol who) (ready.Enrol w) = who_of who.now ≡ Some w
 IsMadeReady reads (act.Roster file) (ready.Roster partners) =
     IsRosterIn reads file.now partners.items
 IsMadeReady reads (act.Send file) (ready.Send bytes) = reads file.now (MOST_BYTES + 1) bytes.items
-IsMadeReady reads (act.Take dir) (ready.Take folder) = folder ≡ dir
+IsMadeReady reads (act.Take dir None) (ready.Take folder) = folder ≡ dir
+IsMadeReady reads (act.Take dir (Some done)) (ready.TakeInto inbox) = (inbox.dir ≡ dir)
+    × (inbox.done ≡ done)
 IsMadeReady reads (act.Clerk told) (ready.Clerk slip) =
     IsSlipOf reads told slip.who slip.words slip.text.items slip.sheet
 IsMadeReady reads a r = ⊥

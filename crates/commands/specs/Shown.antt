@@ -4,6 +4,7 @@ use Rattle.std.specs.Io.KnownBytes.{Appends}
 use Rattle.profile.specs.Decision.{standing}
 use Rattle.profile.specs.Header.{Who}
 use Rattle.profile.specs.History.{History}
+use Rattle.profile.specs.Moments.{Moment}
 use Rattle.profile.specs.declared.refusals.Refusal.{Refusal}
 use Rattle.profile.specs.Register.{Entry, own}
 use Rattle.profile.specs.Reports.{outbox_list, pick_list}
@@ -11,8 +12,7 @@ use Rattle.profile.specs.Rows.{StockRow, OutRow, stock_of, outbox_of}
 use Rattle.reports.specs.Exports.{stock_text}
 use Rattle.reports.specs.Open.{depositor_list, open_report}
 use Rattle.store.specs.Open.{OpenWork, enrolled, open_of}
-use Rattle.seals.specs.Noted.{noted_line, noted_of}
-use Rattle.seals.specs.Seals.{seal_of_first}
+use Rattle.seals.specs.Noted.{noted_line, noted_of, noted_of_first}
 use Rattle.store.specs.Sent.{text_of}
 use Rattle.store.specs.Standing.{Standing, IsQueryFault, IsUnchanged, OfKept}
 use Rattle.commands.specs.Printing.{AppendsFront}
@@ -59,14 +59,14 @@ shown_order number None = ([], Refused)
 shown_order number (Some h) = shown_sheet (pick_list h.events number)
 
 -- the seal of so many entries, if there are so many
-abbrev pub shown_first : ℕ → Option (List ℕ) → Shown
-shown_first n None = ([], Refused)
-shown_first n (Some seal) = (noted_line (n, seal), Done)
+abbrev pub shown_first : Option (ℕ × List ℕ × Option Moment) → Shown
+shown_first None = ([], Refused)
+shown_first (Some noted) = (noted_line noted, Done)
 
 -- the seal of a register, or of its first entries, with their number
 abbrev pub shown_seal : Option ℕ → List Entry → Shown
 shown_seal None L = (noted_line (noted_of L), Done)
-shown_seal (Some n) L = shown_first n (seal_of_first n L)
+shown_seal (Some n) L = shown_first (noted_of_first n L)
 
 -- what a warehouse with this register shows
 abbrev pub shown_of : Who → List Entry → Look → Shown

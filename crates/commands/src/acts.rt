@@ -18,6 +18,7 @@ use crate::clock::{TimeSource, moment_for};
 use crate::enrolments::{enrol_all, read_roster};
 use crate::slips::{Slip, clerk, slip_of};
 use crate::takes::take;
+use crate::takes_into::{Inbox, take_away};
 use crate::told::{CommandError, ExitStatus, tell_refusal, tell_text};
 use crate::verbosity::Verbosity;
 use command_line::BookAct;
@@ -39,6 +40,8 @@ pub enum Ready<'a> {
     Send(Vec<u8>),
     /// Submit each interchange of the folder with this name.
     Take(&'a str),
+    /// Submit each interchange of a folder, and move what was taken below another.
+    TakeInto(Inbox<'a>),
     /// Submit what a clerk did.
     Clerk(Slip<'a>),
 }
@@ -68,7 +71,14 @@ fn make_ready<'a, R: FileSystem + AllocGlobal>(
             Ok(bytes) => Ok(Ok(Ready::Send(bytes))),
             Err(error) => Err(about_file(rt.alloc(), *file, &error)),
         },
-        BookAct::Take { dir } => Ok(Ok(Ready::Take(*dir))),
+        BookAct::Take { dir, done: None } => Ok(Ok(Ready::Take(*dir))),
+        BookAct::Take {
+            dir,
+            done: Some(done),
+        } => Ok(Ok(Ready::TakeInto(Inbox {
+            dir: *dir,
+            done: *done,
+        }))),
         BookAct::Clerk(words) => match slip_of(rt, words)? {
             Ok(slip) => Ok(Ok(Ready::Clerk(slip))),
             Err(refusal) => Ok(Err(refusal)),
@@ -190,6 +200,7 @@ pub fn perform<R: FileSystem + AllocGlobal + Clone + Drop, K: Keeper, W: io::Wri
             hand_in(alloc, book, &Command::Interchange(bytes), moment, out, err)
         }
         Ready::Take(dir) => take(rt, book, *dir, moment, verbosity, out, err),
+        Ready::TakeInto(inbox) => take_away(rt, book, inbox, moment, verbosity, out, err),
         Ready::Clerk(slip) => hand_in(alloc, book, &clerk(slip), moment, out, err),
     }
 }

@@ -7,15 +7,14 @@ ghost use Rattle.commands.specs.Stops.{fault_in, HasDeviceFault};
 
 use crate::files::{MOST_SHEET, read_within};
 use crate::told::CommandError;
-use command_line::{BookAct, ClerkWords, Show, Task};
-use folders::{FileSystem, write_name};
+use command_line::{BookAct, ClerkWords, Endpoint, Show, Task};
+use folders::{FileSystem, IntoStep, IntoStop, write_name};
 use intake::FolderStop;
 use itoa::Buffer;
 use profile::{MOST_NUMBER, MOST_TICKET};
 use sheet_texts::first_bad;
 use std::alloc::{AllocError, Global};
 use std::io;
-use std::net::SocketAddr;
 use store::{Fault, Ident, Refusal, SheetKind, Who};
 
 // A name, and what is said of it.
@@ -148,38 +147,50 @@ pub fn about_book(alloc: Global, book: &str, is_made: bool, stop: CommandError) 
     }
 }
 
-/// The fault of an address at which nobody can listen.
-pub fn about_address(alloc: Global, address: &SocketAddr, error: io::Error) -> CommandError
+/// The fault of an endpoint at which nobody can listen.
+pub fn about_endpoint(alloc: Global, endpoint: &Endpoint<'_>, error: io::Error) -> CommandError
     ensures told { fault_in result ≡ Some (fault_of_kind (error_kind error)) }
     ensures device { HasDeviceFault result }
 {
     let CommandError::Fault(fault) = CommandError::from(error) else {
         return CommandError::Fault(Fault::Device);
     };
-    match address.to_string(alloc) {
-        Ok(address) => caused_of(
+    match endpoint.text(alloc) {
+        Ok(endpoint) => caused_of(
             alloc,
             fault,
-            &address,
+            &endpoint,
             " can't be listened at: is a server running there?",
         ),
         Err(_) => CommandError::Fault(fault),
     }
 }
 
-/// The fault of a server that doesn't serve what it is asked for, with its address and what is said
-/// of it.
+/// The fault of a server that doesn't serve what it is asked for, with where it listens and what is
+/// said of it.
 pub fn about_server(
     alloc: Global,
-    server: &SocketAddr,
+    server: &Endpoint<'_>,
     fault: Fault,
     said: &'static str,
 ) -> CommandError
     ensures { fault_in result ≡ Some fault }
 {
-    match server.to_string(alloc) {
+    match server.text(alloc) {
         Ok(server) => caused_of(alloc, fault, &server, said),
         Err(_) => CommandError::Fault(fault),
+    }
+}
+
+/// The fault of a document that couldn't be left in a folder.
+pub fn about_document(alloc: Global, dir: &str, number: u32, error: &io::Error) -> CommandError
+    ensures told { fault_in result ≡ Some (fault_of_kind (error_kind error.now)) }
+    ensures device { HasDeviceFault result }
+{
+    let mut digits = Buffer::new();
+    match [dir, "/", digits.format(number), ".x12"].concat(alloc) {
+        Ok(path) => about_file(alloc, &path, error),
+        Err(_) => about_file(alloc, dir, error),
     }
 }
 
@@ -242,6 +253,28 @@ pub fn about_stop(alloc: Global, dir: &str, stop: &FolderStop) -> CommandError
     }
 }
 
+/// The fault at which the taking of a folder into another stopped, with the folder or the file that
+/// it is about.
+pub fn about_into_stop(alloc: Global, dir: &str, done: &str, stop: &IntoStop) -> CommandError
+    ensures { fault_in result ≡ Some stop.now.stop.fault }
+{
+    let fault = stop.stop.fault;
+    match stop.step {
+        IntoStep::Listing => about_stop(alloc, dir, &stop.stop),
+        IntoStep::Taking => match [done, "/taking"].concat(alloc) {
+            Ok(taking) => about_stop(alloc, &taking, &stop.stop),
+            Err(_) => CommandError::Fault(fault),
+        },
+        _ if fault == Fault::Device => caused_of(
+            alloc,
+            fault,
+            done,
+            ": no folder can be made, renamed or brought down to the disk in it",
+        ),
+        _ => CommandError::Fault(fault),
+    }
+}
+
 // What a name, a ticket and a number may be, to stand after one that isn't.
 const PARTNER: &str =
     ": a name is a qualifier of two characters, a hyphen and an id of 2 to 15, as ZZ-ACME, of A to Z, 0 to 9, - and .";
@@ -293,7 +326,7 @@ fn bad_clerk_word<'a>(words: &ClerkWords<'a>) -> Option<BadWord<'a>> {
 // The first word of a line that can't be read; files aren't looked at.
 fn bad_word<'a>(task: &Task<'a>) -> Option<BadWord<'a>> {
     match task {
-        Task::Init { who } => bad_partner(*who),
+        Task::Init { who } | Task::HandOn { who, .. } => bad_partner(*who),
         Task::Act { act, .. } => match act {
             BookAct::Enrol { who } => bad_partner(*who),
             BookAct::Clerk(words) => bad_clerk_word(words),

@@ -6,8 +6,11 @@
 mod acts;
 mod causes;
 mod clock;
+mod clock_told;
+mod endpoints;
 mod enrolments;
 mod files;
+mod handing_on;
 mod printing;
 mod reasons;
 mod script;
@@ -17,14 +20,18 @@ mod serving;
 mod shows;
 mod slips;
 mod takes;
+mod takes_into;
 mod told;
 mod verbosity;
 
 pub use acts::{Ready, perform, ready_at};
-pub use causes::{about_book, about_file, about_missing, about_opening, about_server, about_use};
+pub use causes::{
+    about_book, about_document, about_file, about_missing, about_opening, about_server, about_use,
+};
 pub use clock::{TimeSource, moment_for};
 pub use command_line::Service;
 pub use files::read_lines;
+pub use handing_on::{hand_on, tell_left};
 pub use reasons::{KeptPair, reason, tell_cause, tell_reason, tell_unready};
 pub use script::{play_over, run_script};
 pub use sealing::tell_seal;
@@ -32,5 +39,6 @@ pub use served_files::{FileId, FileNames, ServedFile};
 pub use serving::{crowd_of, serve, serve_on};
 pub use shows::{Look, ask, show};
 pub use slips::{Slip, sheet_text_of};
+pub use takes_into::Inbox;
 pub use told::{CommandError, ExitStatus, tell_refusal, tell_stop, tell_text, usage};
 pub use verbosity::Verbosity;

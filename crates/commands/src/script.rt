@@ -91,6 +91,10 @@ fn answer<
     match task {
         Task::Act { act, at } => change(rt, book, task, act, *at, verbosity, out, err),
         Task::Show(what) => look(rt, book, task, what, verbosity, out, err),
+        Task::HandOn { .. } => Err(usage(
+            rt.alloc(),
+            "--into stands in no line of a script or a batch\n",
+        )),
         _ => Err(no_line(rt.alloc())),
     }
 }

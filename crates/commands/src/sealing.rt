@@ -4,7 +4,7 @@ ghost use Rattle.commands.specs.Shown.{IsLookAt, shown_seal};
 
 use crate::printing::print;
 use crate::told::{CommandError, ExitStatus};
-use seals::{NotedSeal, Sealed};
+use seals::Sealed;
 use std::alloc::Global;
 use std::io;
 
@@ -39,15 +39,14 @@ fn tell_first<K: Sealed, W: io::Write, E: io::Write>(
         let _ = write!(err, "the book has fewer entries than {entries}\n");
         return Ok(ExitStatus::Refused);
     };
-    let seal = NotedSeal { entries, seal };
     print(out, &seal.line(alloc)?)?;
     Ok(ExitStatus::Done)
 }
 
-/// Prints the seal of a book, or of its first entries, so many: their number, a colon, and the
-/// seal's 64 digits. Nothing is printed where it has fewer entries (status 1), which is told on
-/// standard error. The faults are those of a query, want of memory, and Device (44) where it can't
-/// be printed.
+/// Prints the seal of a book, or of its first entries, so many: their number, a colon, the seal's
+/// 64 digits, and the moment of the last of them. Nothing is printed where it has fewer entries
+/// (status 1), which is told on standard error. The faults are those of a query, want of memory,
+/// and Device (44) where it can't be printed.
 pub fn tell_seal<K: Sealed, W: io::Write, E: io::Write>(
     alloc: Global,
     book: &mut K,

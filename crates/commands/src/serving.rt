@@ -1,23 +1,24 @@
 //! A book served over HTTP.
 ghost use Rattle.std.specs.Prelude.{◌≡◌, ◌≤◌, ℕ, OnOk, OnErr, unwrap_or};
 ghost use Rattle.store.specs.Standing.{GoesOn};
-ghost use Rattle.intake.specs.Connections.{IsServed};
+ghost use Rattle.intake.specs.Connections.{IsEnough, IsServed};
 ghost use Rattle.commands.specs.Serving as meant;
-ghost use Rattle.commands.specs.Serving.{NextMoment, Comes, HasServed, HasServedUpTo};
+ghost use Rattle.commands.specs.Serving.{AfterLook, NextMoment, Comes, HasServed, HasServedUpTo};
 
-use crate::causes::{about_address, about_replaced};
+use crate::causes::{about_endpoint, about_replaced};
 use crate::clock::now;
+use crate::clock_told::tell_clock;
+use crate::endpoints::{listen, remove_socket, tell_endpoint};
 use crate::served_files::ServedFile;
 use crate::told::{CommandError, ExitStatus};
 use crate::verbosity::Verbosity;
 use command_line::Service;
 use http::StatusCode;
 use intake::{
-    Access, Audience, Callers, Connection, Crowd, Doors, Patience, RequestLine, serve_within,
-    write_sender,
+    Access, Audience, Callers, Connection, Crowd, Doors, Listener, Patience, RequestLine,
+    serve_within, write_sender,
 };
 use std::io;
-use std::net::TcpListener;
 use std::time::Duration;
 use store::{Fault, Keeper, Moment};
 
@@ -57,6 +58,7 @@ fn access_of<'a>(service: &Service<'a>) -> Access<'a>
             names: service.hosts,
         }),
         from: service.from,
+        tells_health: true,
     }
 }
 
@@ -179,12 +181,14 @@ fn serve_asking<
     requires asks { (f : F) → F.pre f }
     requires admits { A.IsAlwaysCallable admits }
 
-    ensures served { OnOk result (Comes F.step
+    ensures served { OnOk result ((total : ℕ) × (n : ℕ)
+        × IsEnough total n (meant.count_of service.now.count) × Comes F.step
         (λ old c new. IsServed access.entry (K.standing old) (K.standing new) c)
-        has_clock ask first book.old book.new (meant.count_of service.now.count)) }
-    ensures ended { OnErr result ((n : ℕ) × (n ≤ meant.count_of service.now.count) × Comes F.step
+        has_clock ask first book.old book.new total n) }
+    ensures ended { OnErr result ((total : ℕ) × (n : ℕ)
+        × (n ≤ meant.count_of service.now.count) × Comes F.step
         (λ old c new. IsServed access.entry (K.standing old) (K.standing new) c)
-        has_clock ask first book.old book.new n) }
+        has_clock ask first book.old book.new total n) }
     ensures goes { GoesOn (K.standing book.old) (K.standing book.new) }
 {
     let mut last = first;
@@ -207,7 +211,10 @@ fn serve_asking<
         access,
         clock,
         |connection: Connection| {
-            if tell_outcome(out, &connection.served.outcome).is_err() {
+            // Who looks whether it is well isn't counted, and isn't told either.
+            if !connection.served.is_health
+                && tell_outcome(out, &connection.served.outcome).is_err()
+            {
                 is_told = false;
             }
             tell_lost(err, connection.lost);
@@ -267,18 +274,10 @@ pub fn serve_on<L: Callers, K: Keeper, A: FnMut() -> bool, W: io::Write, E: io::
     )
 }
 
-// Says where a server listens, also where the line left the port to the system. What can't be said
-// is left out: it is no part of what is served.
-fn tell_address<E: io::Write>(err: &mut E, listener: &TcpListener) {
-    if let Ok(address) = listener.local_addr() {
-        let _ = write!(err, "listening at {address}\n");
-    }
-}
-
 /// The connections of a listener, as many at once as a service says.
 pub fn crowd_of<'r, 'a>(
     rt: &'r HostRuntime,
-    listener: TcpListener,
+    listener: Listener,
     service: &Service<'a>,
 ) -> io::Result<Crowd<'r, 'a, HostRuntime>> {
     Crowd::open(
@@ -292,7 +291,8 @@ pub fn crowd_of<'r, 'a>(
     )
 }
 
-/// Serves the book of a file at an address, and where it is asked for says where it listens. Beyond
+/// Serves the book of a file at an endpoint, and where it is asked for says where it listens. A
+/// clock before the last entry, or a day or more after it, is told on standard error first. Beyond
 /// the faults of `serve_on` it is Device (44) where nobody can listen there, and where the file's
 /// name leads to another file, or to none, when a connection comes.
 pub fn serve<K: Keeper, W: io::Write, E: io::Write>(
@@ -306,28 +306,32 @@ pub fn serve<K: Keeper, W: io::Write, E: io::Write>(
     out: &mut W,
     err: &mut E,
 ) -> Result<ExitStatus, CommandError>
-    ensures served { OnOk result (HasServed K.standing (meant.access_of service.now)
-        has_clock first book.old book.new (meant.count_of service.now.count)) }
-    ensures ended { OnErr result (HasServedUpTo K.standing (meant.access_of service.now)
-        has_clock first book.old book.new (meant.count_of service.now.count)) }
+    ensures served { OnOk result (AfterLook K.standing book.old
+        (λ start. HasServed K.standing (meant.access_of service.now)
+        has_clock first start book.new (meant.count_of service.now.count))) }
+    ensures ended { OnErr result (AfterLook K.standing book.old
+        (λ start. HasServedUpTo K.standing (meant.access_of service.now)
+        has_clock first start book.new (meant.count_of service.now.count))) }
     ensures goes { GoesOn (K.standing book.old) (K.standing book.new) }
 {
-    let listener = match TcpListener::bind(rt, service.address) {
+    tell_clock(book, has_clock, first, err);
+    let listener = match listen(rt, &service.endpoint) {
         Ok(listener) => listener,
-        Err(error) => return Err(about_address(rt.alloc(), &service.address, error)),
+        Err(error) => return Err(about_endpoint(rt.alloc(), &service.endpoint, error)),
     };
     if verbosity.explains {
-        tell_address(err, &listener);
+        tell_endpoint(err, &listener, &service.endpoint);
     }
     let mut crowd = match crowd_of(rt, listener, service) {
         Ok(crowd) => crowd,
-        Err(error) => return Err(about_address(rt.alloc(), &service.address, error)),
+        Err(error) => return Err(about_endpoint(rt.alloc(), &service.endpoint, error)),
     };
     let is_there = || file.is_there(rt);
     let ended = serve_on(
         rt, &mut crowd, service, book, first, has_clock, is_there, verbosity, out, err,
     );
     tell_lost(err, crowd.finish());
+    remove_socket(rt, &service.endpoint);
     match ended {
         Err(CommandError::Fault(Fault::Device)) if !file.is_there(rt) => {
             Err(about_replaced(rt.alloc(), file.name()))

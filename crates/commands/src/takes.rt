@@ -27,10 +27,10 @@ fn status_of(outcome: FileOutcome) -> ExitStatus
     }
 }
 
-// More bytes than the line of a file has, whose name has at most 255 bytes, each told by four at
-// most: room for a line is made before files are taken, so that telling what became of them wants
-// no memory.
-const MOST_LINE: usize = 1_100;
+/// More bytes than the line of a file has, whose name has at most 255 bytes, each told by four at
+/// most: room for a line is made before files are taken, so that telling what became of them wants
+/// no memory.
+pub(crate) const MOST_LINE: usize = 1_100;
 
 // Prints what became of a file.
 fn tell_file<W: io::Write>(
@@ -50,8 +50,8 @@ fn tell_file<W: io::Write>(
     Ok(())
 }
 
-// Prints what became of files. Each line is made in `room` first, of which little is wanted.
-fn tell_taken<W: io::Write>(
+/// Prints what became of files. Each line is made in `room` first, of which little is wanted.
+pub(crate) fn tell_taken<W: io::Write>(
     out: &mut W,
     files: &[Taken],
     room: &mut Vec<u8>,
@@ -80,8 +80,8 @@ fn is_left(entry: &PassedOver) -> bool
     matches!(entry.why, WhyPassed::LongName)
 }
 
-// Whether one of them is such an interchange.
-fn leaves_any(passed: &[PassedOver]) -> bool
+/// Whether one of them is an interchange that can't be answered.
+pub(crate) fn leaves_any(passed: &[PassedOver]) -> bool
     ensures { result ≡ list_any meant.is_left passed.now }
 {
     passed.iter().any(|entry| is_left(entry))
@@ -109,9 +109,9 @@ fn tell_entry<E: io::Write>(err: &mut E, entry: &PassedOver, room: &mut Vec<u8>)
     err.write_all(room)
 }
 
-// Tells what was passed over, and why: all that may be meant as an interchange, where that is asked
-// for, and else what can't be taken because of its name.
-fn tell_passed<E: io::Write>(
+/// Tells what was passed over, and why: all that may be meant as an interchange, where that is
+/// asked for, and else what can't be taken because of its name.
+pub(crate) fn tell_passed<E: io::Write>(
     err: &mut E,
     passed: &[PassedOver],
     is_all: bool,

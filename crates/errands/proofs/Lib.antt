@@ -1,3 +1,4 @@
+mod AskingLaws
 mod HaltLaws
 mod ToldLaws
 mod PathLaws

@@ -1,5 +1,5 @@
 -- What the server answered, as it stands in an input.
-use Rattle.std.specs.Prelude.{◌≡◌, ℕ, ◌≤◌, List, [], Option, Some, IfSome, length, take, codes}
+use Rattle.std.specs.Prelude.{◌≡◌, ℕ, ◌≤◌, List, [], Option, Some, length, codes}
 use Rattle.httparse.specs.Grammar.{ResponseHead, ReadsResponse, print_response, status_code}
 use Rattle.errands.specs.Fields.{stated, is_x12, body_length}
 use Rattle.errands.specs.declared.remote.answers.ServerAnswer.{ServerAnswer}

@@ -3,6 +3,7 @@ pub mod Errands
 pub mod Paths
 pub mod Told
 pub mod Carried
+pub mod Asked
 pub mod Requests
 pub mod Fields
 pub mod Answers

@@ -1,6 +1,6 @@
 //! What carries requests to a server.
 use crate::remote::{Request, ServerAnswer, Unanswered, call};
-use std::net::SocketAddr;
+use command_line::Endpoint;
 use std::time::Duration;
 
 /// What carries a request to a server, and brings its answer.
@@ -37,12 +37,12 @@ const PATIENCE: u64 = 60;
 #[derive(Drop)]
 pub struct Network<'a> {
     rt: &'a HostRuntime,
-    server: SocketAddr,
+    server: Endpoint<'a>,
 }
 
 impl<'a> Network<'a> {
-    /// Connections to the server at this address.
-    pub fn new(rt: &'a HostRuntime, server: SocketAddr) -> Network<'a> {
+    /// Connections to the server that listens there.
+    pub fn new(rt: &'a HostRuntime, server: Endpoint<'a>) -> Network<'a> {
         Network { rt, server }
     }
 }

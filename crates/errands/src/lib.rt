@@ -5,6 +5,7 @@
 mod answers;
 mod courier;
 mod errand;
+mod handing_on;
 pub mod laws;
 mod paths;
 mod reasons;
@@ -15,6 +16,7 @@ mod telling;
 pub use answers::{HeardAs, heard, heard_query};
 pub use courier::{Courier, Network};
 pub use errand::{Errand, errand_of};
+pub use handing_on::{HandOn, hand_on_there};
 pub use reasons::{Listening, tell_reason_there};
 pub use running::carry_out;
 pub use telling::{tell_document, tell_report};

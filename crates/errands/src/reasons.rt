@@ -9,11 +9,10 @@ use crate::courier::Courier;
 use crate::errand::Errand;
 use crate::remote::{Request, ServerAnswer, Unanswered};
 use crate::running::get_any;
-use command_line::{ClerkWords, Show};
+use command_line::{ClerkWords, Endpoint, Show};
 use commands::{CommandError, KeptPair, reason, tell_cause};
 use std::alloc::{AllocError, Global};
 use std::io;
-use std::net::SocketAddr;
 use store::Refusal;
 
 /// Carries requests as another courier does, and keeps what the last answer came to, as that to a
@@ -134,7 +133,7 @@ fn shown_for<'a>(refusal: Refusal, words: &ClerkWords<'a>) -> Option<Show<'a>> {
 pub fn tell_reason_there<C: Courier, E: io::Write>(
     alloc: Global,
     courier: &mut Listening<C>,
-    server: &SocketAddr,
+    server: &Endpoint<'_>,
     errand: &Errand<'_>,
     err: &mut E,
 ) -> Result<(), CommandError>

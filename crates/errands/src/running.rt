@@ -11,19 +11,18 @@ use crate::errand::Errand;
 use crate::paths::{deed_path, look_path};
 use crate::remote::{Request, ServerAnswer, Unanswered, Verb};
 use crate::telling::{tell_document, tell_report};
-use command_line::Show;
+use command_line::{Endpoint, Show};
 use commands::{CommandError, ExitStatus, about_server};
 use intake::Audience;
 use std::alloc::Global;
 use std::io;
-use std::net::SocketAddr;
 use store::Fault;
 
 // Asks a server.
 fn ask_server<C: Courier>(
     alloc: Global,
     courier: &mut C,
-    server: &SocketAddr,
+    server: &Endpoint<'_>,
     request: &Request<'_>,
 ) -> Result<ServerAnswer, CommandError>
     ensures brought { IfOk result
@@ -44,9 +43,9 @@ fn ask_server<C: Courier>(
     }
 }
 
-// The fault that an answer tells, with what is said of it; Device (44) of an answer that no such
-// server gives.
-fn about_server_stop(alloc: Global, server: &SocketAddr, fault: Fault) -> CommandError
+/// The fault that an answer tells, with what is said of it; Device (44) of an answer that no such
+/// server gives.
+pub(crate) fn about_server_stop(alloc: Global, server: &Endpoint<'_>, fault: Fault) -> CommandError
     ensures { fault_in result ≡ Some fault }
 {
     let said = match fault {
@@ -62,7 +61,7 @@ fn about_server_stop(alloc: Global, server: &SocketAddr, fault: Fault) -> Comman
 fn post<C: Courier, W: io::Write, E: io::Write>(
     alloc: Global,
     courier: &mut C,
-    server: &SocketAddr,
+    server: &Endpoint<'_>,
     path: &str,
     body: &[u8],
     out: &mut W,
@@ -89,7 +88,7 @@ fn post<C: Courier, W: io::Write, E: io::Write>(
 pub(crate) fn get_any<C: Courier>(
     alloc: Global,
     courier: &mut C,
-    server: &SocketAddr,
+    server: &Endpoint<'_>,
     show: &Show<'_>,
 ) -> Result<ServerAnswer, CommandError>
     ensures brought { IfOk result
@@ -108,11 +107,11 @@ pub(crate) fn get_any<C: Courier>(
     ask_server(alloc, courier, server, &request)
 }
 
-// The answer to a query of what these are shown, where it is one.
-fn get<C: Courier>(
+/// The answer to a query of what these are shown, where it is one.
+pub(crate) fn get<C: Courier>(
     alloc: Global,
     courier: &mut C,
-    server: &SocketAddr,
+    server: &Endpoint<'_>,
     shown: Audience,
     show: &Show<'_>,
 ) -> Result<ServerAnswer, CommandError>
@@ -130,11 +129,11 @@ fn get<C: Courier>(
     }
 }
 
-// The answer to a query for a text that went out, where it is one, or 404.
-fn get_text<C: Courier>(
+/// The answer to a query for a text that went out, where it is one, or 404.
+pub(crate) fn get_text<C: Courier>(
     alloc: Global,
     courier: &mut C,
-    server: &SocketAddr,
+    server: &Endpoint<'_>,
     show: &Show<'_>,
 ) -> Result<ServerAnswer, CommandError>
     ensures brought { IfOk result
@@ -155,7 +154,7 @@ fn get_text<C: Courier>(
 fn report<C: Courier, W: io::Write, E: io::Write>(
     alloc: Global,
     courier: &mut C,
-    server: &SocketAddr,
+    server: &Endpoint<'_>,
     shown: Audience,
     show: &Show<'_>,
     out: &mut W,
@@ -176,7 +175,7 @@ fn report<C: Courier, W: io::Write, E: io::Write>(
 fn export<C: Courier, W: io::Write, E: io::Write>(
     alloc: Global,
     courier: &mut C,
-    server: &SocketAddr,
+    server: &Endpoint<'_>,
     who: &str,
     show: &Show<'_>,
     out: &mut W,
@@ -207,7 +206,7 @@ fn export<C: Courier, W: io::Write, E: io::Write>(
 fn content<C: Courier, W: io::Write, E: io::Write>(
     alloc: Global,
     courier: &mut C,
-    server: &SocketAddr,
+    server: &Endpoint<'_>,
     who: &str,
     show: &Show<'_>,
     out: &mut W,
@@ -235,7 +234,7 @@ fn content<C: Courier, W: io::Write, E: io::Write>(
 fn look<C: Courier, W: io::Write, E: io::Write>(
     alloc: Global,
     courier: &mut C,
-    server: &SocketAddr,
+    server: &Endpoint<'_>,
     show: &Show<'_>,
     out: &mut W,
     err: &mut E,
@@ -270,7 +269,7 @@ fn look<C: Courier, W: io::Write, E: io::Write>(
 pub fn carry_out<C: Courier, W: io::Write, E: io::Write>(
     alloc: Global,
     courier: &mut C,
-    server: &SocketAddr,
+    server: &Endpoint<'_>,
     errand: &Errand<'_>,
     out: &mut W,
     err: &mut E,

@@ -54,7 +54,7 @@ handed_in_more P a b c t names told name one p q before file =
     }
 
 -- so many texts as names
-texts_counted : (files : List HandedFile) (names : List (List ℕ)) (k : ℕ) → map (λ (f : HandedFile). f.name) files ≡ names → k ≡ length names → k ≡ length (map (λ (f : HandedFile). f.text) files)
+pub texts_counted : (files : List HandedFile) (names : List (List ℕ)) (k : ℕ) → map (λ (f : HandedFile). f.name) files ≡ names → k ≡ length names → k ≡ length (map (λ (f : HandedFile). f.text) files)
 texts_counted files names k named counted =
     counted ∙ ap length (sym named) ∙ length-map files (λ (f : HandedFile). f.name) ∙ sym (length-map files (λ (f : HandedFile). f.text))
 

@@ -1,8 +1,10 @@
 -- Worked rows of names as they are told.
-use Rattle.std.specs.Prelude.{◌≡◌, ◌++◌, ◌∷◌, [], codes}
-use Rattle.std.proofs.Common.{refl}
+use Rattle.std.specs.Prelude.{◌≡◌, ◌++◌, ◌∷◌, [], ℕ, List, String, codes, string_bytes}
+use Rattle.std.specs.Global.{Global}
+use Rattle.std.proofs.Common.{ap, refl}
 use Rattle.folders.specs.Folders.{WasAccepted}
-use Rattle.folders.specs.Lines.{told_name, taken_line}
+use Rattle.folders.specs.Lines.{told_name, staying_line, taken_line}
+use Rattle.folders.specs.declared.staying.WhyStays.TheVariants.{Link}
 
 plain : told_name (codes "a.x12") ≡ codes "a.x12"
 plain = refl
@@ -32,3 +34,8 @@ turned = refl
 -- D8 9C and E2 81 A9, at the end
 ends : told_name (216 ∷ 156 ∷ 226 ∷ 129 ∷ 169 ∷ []) ≡ codes "\\xd8\\x9c\\xe2\\x81\\xa9"
 ends = refl
+
+-- an interchange that stays
+stays : (name : String Global) → string_bytes name ≡ codes "a.x12"
+    → staying_line (record { name = name; why = Link }) ≡ codes "a.x12 stays: it is a symbolic link" ++ 10 ∷ []
+stays name is = ap (λ (bytes : List ℕ). (told_name bytes ++ codes " stays: " ++ codes "it is a symbolic link") ++ 10 ∷ []) is

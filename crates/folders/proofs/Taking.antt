@@ -128,14 +128,23 @@ none_counted stop a t is = record {
   counted = is.none_taken;
 }
 
+-- it stops after all files that there are
+pub all_counted : (stop : FolderStop) (a b : Standing) (t : Moment) (texts : List (List ℕ)) (told : List Became) → GoesOn a b → a.shut ≡ b.shut → AreTextsTaken a b t texts told
+    → IsDeviceFault stop.fault → stop.taken ≡ length texts → IsFolderStop stop a b t
+unfolding stopped_between
+all_counted stop a b t texts told p same taken why counted = record {
+  stopped = stopped_between a b stop.fault t texts told p same taken why;
+  counted = counted;
+}
+
 -- What one file comes to.
 
 -- a reply to the text of a file
-pub file_taken : (a b : Standing) (t : Moment) (text : List ℕ) (reply : replies.Reply) (told : Became) → told ≡ became reply
+pub finish_taken : (a b : Standing) (t : Moment) (text : List ℕ) (reply : replies.Reply) (told : Became) → told ≡ became reply
     → OfUsable a b (λ L. reply ≡ reply_to Two a.warehouse L (Interchange text) t)
     → OfUsable a b (λ L. IsUsable b (after Two a.warehouse L (Interchange text, t)))
     → OfKept a b (λ L. KeepsLegal b (after Two a.warehouse L (Interchange text, t))) → AreTextsTaken a b t (text ∷ []) (told ∷ [])
-file_taken a b t text reply told is said goes keeps = record {
+finish_taken a b t text reply told is said goes keeps = record {
   told_is = λ clean L u. ap (λ (x : Became). x ∷ []) (is ∙ ap became (said clean L u));
   usable = goes;
   keeps = keeps;

@@ -1,5 +1,10 @@
+pub mod Claims
+pub mod Documents
+pub mod Entries
+pub mod Naming
 pub mod Folders
 pub mod Handed
+pub mod Into
 pub mod Lines
 pub mod Listing
 pub mod Passing

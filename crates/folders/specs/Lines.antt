@@ -7,9 +7,11 @@ use Rattle.profile.specs.Refusals.{refusal_number}
 use Rattle.profile.specs.declared.refusals.Refusal.{Refusal}
 use Rattle.profile.specs.declared.refusals.Refusal.TheVariants.{Unreadable, Note, Duplicate}
 use Rattle.profile.specs.Reports.{ended}
+use Rattle.folders.specs.Claims.{reason_text as stays_text}
 use Rattle.folders.specs.Folders.{Became, WasAccepted, WasStored, WasRefused}
 use Rattle.folders.specs.Passing.{reason_text}
 use Rattle.folders.specs.declared.passing.PassedOver.{PassedOver}
+use Rattle.folders.specs.declared.staying.Staying.{Staying}
 
 -- a note's code in three digits, that of a repeated control number for a duplicate, and another
 -- refusal's number
@@ -96,3 +98,8 @@ told_entry (Some name) = told_name (string_bytes name)
 abbrev pub passed_line : PassedOver → List ℕ
 passed_line entry =
     ended (told_entry entry.name ++ codes " passed over: " ++ reason_text entry.why)
+
+-- what tells an interchange that stays, and why
+abbrev pub staying_line : Staying → List ℕ
+staying_line entry =
+    ended (told_name (string_bytes entry.name) ++ codes " stays: " ++ stays_text entry.why)

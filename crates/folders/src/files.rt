@@ -1,10 +1,18 @@
 //! Files that are read up to a limit, so that one without an end can't take all memory.
-ghost use Rattle.std.specs.Prelude.{◌+◌, IfOk, IfErr};
+ghost use Rattle.std.specs.Prelude.{◌≡◌, ◌+◌, true, false, not, IfOk, IfErr};
 ghost use Rattle.std.specs.IoError.{error_kind};
+ghost use Rattle.folders.specs.Entries.{IsFree, IsStanding, is_there};
 
-use crate::file_system::FileSystem;
+use crate::file_system::{EntryKind, FileSystem};
 use profile::MOST_BYTES;
 use std::io;
+
+// Whether it is nothing.
+fn is_nothing(kind: EntryKind) -> bool
+    ensures { result ≡ not (is_there kind) }
+{
+    matches!(kind, EntryKind::NoEntry)
+}
 
 /// The first bytes of a file, `most` of them where it has so many; no more than these are read.
 pub fn read_first<R: FileSystem>(rt: &R, path: &str, most: u64) -> io::Result<Vec<u8>>
@@ -21,4 +29,13 @@ pub fn read_interchange<R: FileSystem>(rt: &R, path: &str) -> io::Result<Vec<u8>
     ensures failed { IfErr result (λ error. R.fails rt.now path.now (error_kind error)) }
 {
     read_first(rt, path, MOST_BYTES as u64 + 1)
+}
+
+// Whether nothing stands under a path.
+pub(crate) fn is_free<R: FileSystem>(rt: &R, path: &str) -> io::Result<bool>
+    ensures free { IfOk result (λ is. is ≡ true → IsFree (R.finds rt.now) path.now) }
+    ensures stands { IfOk result (λ is. is ≡ false → IsStanding (R.finds rt.now) path.now) }
+    ensures failed { IfErr result (λ error. R.fails rt.now path.now (error_kind error)) }
+{
+    Ok(is_nothing(rt.kind_of(path)?))
 }

@@ -14,7 +14,7 @@ use crate::file_system::FileSystem;
 use crate::files::read_interchange;
 use crate::names::{Listing, listed};
 use crate::passing::PassedOver;
-use std::alloc::AllocError;
+use crate::paths::path_in;
 use std::io;
 use store::{Command, Fault, Keeper, Moment, Refusal, Reply, submit};
 
@@ -60,7 +60,7 @@ pub struct FolderStop {
 }
 
 // The fault that an error of a file or a folder is.
-fn fault_of(error: &io::Error) -> Fault
+pub(crate) fn fault_of(error: &io::Error) -> Fault
     ensures told { result ≡ fault_of_kind (error_kind error.now) }
     ensures named { IsDeviceFault result }
 {
@@ -128,13 +128,6 @@ fn listing_of<R: FileSystem + AllocGlobal>(rt: &R, dir: &str) -> Result<Listing,
             taken: 0,
         }),
     }
-}
-
-// The path of a file in a folder.
-fn path_in<'a, R: AllocGlobal>(rt: &R, dir: &'a str, name: &'a str) -> Result<String, AllocError>
-    ensures { IfOk result (λ path. string_bytes path ≡ file_path dir.now name.now) }
-{
-    [dir, "/", name].concat(rt.alloc())
 }
 
 // Takes the file of this name once there is room to tell what became of it, so that nothing can

@@ -1,9 +1,9 @@
 //! The files of the system.
 ghost use Rattle.std.specs.Prelude.{◌≡◌, IfOk, IfSome, take};
 
-use crate::file_system::{FileSystem, FolderEntry};
+use crate::file_system::{EntryKind, FileSystem, FolderEntry};
 use std::alloc::Global;
-use std::fs::{DirEntry, File, OpenFile};
+use std::fs::{DirEntry, File, Metadata, OpenFile};
 use std::io::{Read, Write};
 use std::rt::Files;
 use std::{fs, io};
@@ -84,6 +84,32 @@ fn write_renamed<R: Files>(rt: &R, made: &str, path: &str, bytes: &[u8]) -> io::
     fs::rename(rt, made, path)
 }
 
+// The same, where what is left of it is removed if it fails.
+fn write_renamed_or_clear<R: Files>(
+    rt: &R,
+    made: &str,
+    path: &str,
+    bytes: &[u8],
+) -> io::Result<()> {
+    let written = write_renamed(rt, made, path, bytes);
+    if written.is_err() {
+        // Nothing is lost where this fails too: the next file under this name removes what is left.
+        let _ = fs::remove_file(rt, made);
+    }
+    written
+}
+
+// What an entry is.
+fn kind_of_entry(found: &Metadata) -> EntryKind {
+    if found.is_symlink() {
+        EntryKind::Link
+    } else if found.is_file() {
+        EntryKind::File
+    } else {
+        EntryKind::Other
+    }
+}
+
 impl<R: Files + AllocGlobal> FileSystem for R {
     fn entries(&self, dir: &str) -> io::Result<Vec<FolderEntry>> {
         let mut entries = Vec::new(self.alloc());
@@ -100,15 +126,34 @@ impl<R: Files + AllocGlobal> FileSystem for R {
     }
 
     fn replace(&self, made: &str, path: &str, bytes: &[u8]) -> io::Result<()> {
-        let written = write_renamed(self, made, path, bytes);
-        if written.is_err() {
-            // Nothing is lost where this fails too: the next answer removes what is left.
-            let _ = fs::remove_file(self, made);
-        }
-        written
+        write_renamed_or_clear(self, made, path, bytes)
     }
 
     fn remove(&self, path: &str) -> io::Result<()> {
         clear(self, path)
+    }
+
+    fn kind_of(&self, path: &str) -> io::Result<EntryKind> {
+        match fs::symlink_metadata(self, path) {
+            Ok(found) => Ok(kind_of_entry(&found)),
+            Err(error) if error.kind() == io::ErrorKind::NotFound => Ok(EntryKind::NoEntry),
+            Err(error) => Err(error),
+        }
+    }
+
+    fn rename(&self, from: &str, to: &str) -> io::Result<()> {
+        fs::rename(self, from, to)
+    }
+
+    fn make_folder(&self, path: &str) -> io::Result<()> {
+        fs::create_dir_all(self, path)
+    }
+
+    fn sync_folder(&self, path: &str) -> io::Result<()> {
+        fs::open(self, path)?.sync_all()
+    }
+
+    fn create(&self, made: &str, path: &str, bytes: &[u8]) -> io::Result<()> {
+        write_renamed_or_clear(self, made, path, bytes)
     }
 }

@@ -1,5 +1,5 @@
 -- the response by each of the tests
-use Rattle.std.proofs.Common.{◌≡◌, ℕ, ◌<◌, ◌≤◌, List, [], ◌++◌, take, drop, Option, Some, None, IfSome, Result, Err, Ok, sym, length, ◌∙◌, refl, true, false, unwrap_or, option_map, nat_lt, arith, ap, subst, inl, inr}
+use Rattle.std.proofs.Common.{◌≡◌, ℕ, Bool, ◌<◌, ◌≤◌, List, [], ◌++◌, take, drop, Option, Some, None, IfSome, Result, Err, Ok, sym, length, ◌∙◌, refl, true, false, unwrap_or, option_map, nat_lt, arith, ap, subst, inl, inr}
 use Rattle.std.proofs.lemmas.Bool.Decides.{nat_tests}
 use Rattle.std.specs.Io.KnownBytes.{Consumes}
 use Rattle.httparse.specs.Grammar.{RequestHead}
@@ -13,7 +13,7 @@ use Rattle.store.specs.Standing.{Standing}
 use Rattle.store.specs.Fault.TheVariants.{OutOfMemory}
 use Rattle.store.proofs.Changes.{unchanged_refl}
 use Rattle.intake.specs.Fields.{head_of}
-use Rattle.intake.specs.Asking.{IsShutAnswer}
+use Rattle.intake.specs.Asking.{IsShutAnswer, IsShutResponse}
 use Rattle.intake.specs.Lines.{IsLineAt, TellsOf, HasLine, TellsSender, sender_in}
 use Rattle.doors.specs.Doors.{status_of}
 use Rattle.doors.specs.declared.barred.Barred.{Barred}
@@ -24,10 +24,11 @@ use Rattle.intake.specs.declared.served.RequestLine.{RequestLine}
 use Rattle.fields.specs.Fields.{most_head, most_fields}
 use Rattle.gauges.specs.Inputs.{IsInput}
 use Rattle.intake.specs.Requests.{HasNoHead}
-use Rattle.intake.specs.Admitting.{answer_of, answer_past, asker_at, asks_past, barred_at, command_for, command_in, command_past}
+use Rattle.intake.specs.Admitting.{Admission, TurnedAway, ForHealth, LetIn, admission_by, admission_of, answer_of, answer_past, asker_at, asks_past, barred_at, command_for, command_in, command_past, is_health}
+use Rattle.intake.specs.Health.{leads_to_health, health_response, health_asks}
 use Rattle.intake.specs.Reaching.{asked_for, may_reach, sent_for}
 use Rattle.doors.specs.declared.askers.Asker.{Asker}
-use Rattle.intake.specs.Serving.{IsAnswered, IsAskedServed, IsExchange, IsExchangeAfter}
+use Rattle.intake.specs.Serving.{IsAnswered, IsAskedServed, IsExchange, IsExchangeAfter, IsExchangeOf, IsRequestServed}
 use Rattle.intake.specs.Targets.{Target, target_of, has_body, asked_with, command_with}
 use Rattle.intake.proofs.Heads.{head_within}
 use Rattle.gauges.proofs.InputLemmas.{had_input, more_input}
@@ -206,22 +207,21 @@ line_read (Some line) known mid got fields spans h room many within at bytes cop
   told = (copied.0 ∙ at.method, copied.1 ∙ at.path);
 }
 
--- the answer to a head that isn't turned away is the answer to the input that begins with it
-pub whole_answer : (access : Access) (old new : Standing) (t : Moment) (known mid : Option (List ℕ)) (got : List ℕ) (fields : List HeaderSpan) (spans : RequestSpans) (h : RequestHead) (r : Response) (line : Option RequestLine) (sender : Option Who)
+-- the answer to a head is the answer to the input that begins with it
+pub whole_answer : (access : Access) (old new : Standing) (t : Moment) (known mid : Option (List ℕ)) (got : List ℕ) (fields : List HeaderSpan) (spans : RequestSpans) (h : RequestHead) (r : Response) (line : Option RequestLine) (sender : Option Who) (health : Bool)
     → length got ≤ most_head → length fields ≤ most_fields → IsRequestWithin got fields spans → IsRequestAt got fields spans h → Consumes known mid got → IfSome line (IsLineAt got spans)
-    → barred_at access.doors h ≡ None → IsExchangeAfter (asker_at access h) access.audience old new mid t h (drop spans.len got) r sender → IsExchange access old new known t r line sender
-whole_answer access old new t known mid got fields spans h r line sender room many within at bytes copied past answer = record {
+    → IsExchangeOf access old new mid t h (drop spans.len got) r sender health → IsExchange access old new known t r line sender health
+whole_answer access old new t known mid got fields spans h r line sender health room many within at bytes copied answer = record {
   input = got ++ answer.input;
   is_input = more_input known mid got answer.input bytes answer.is_input;
   head = Some h;
   rest = drop spans.len got ++ answer.input;
   begins = head_within got answer.input fields spans h room many within at;
   told = told_of line got fields spans h at copied;
-  sent = subst (λ (b : Option Barred). TellsSender sender (command_past b access h (drop spans.len got ++ answer.input)) r) (sym past) answer.sent;
-  answered =
-      subst (λ (b : Option Barred). IsAnswered old new t (command_past b access h (drop spans.len got ++ answer.input))
-      (λ L. answer_past b access old.warehouse L h (drop spans.len got ++ answer.input) t) r) (sym past) answer.answered;
-  shut = subst (λ (b : Option Barred). IsShutAnswer old (asks_past b access h (drop spans.len got ++ answer.input)) r) (sym past) answer.shut;
+  sent = answer.sent;
+  answered = answer.answered;
+  shut = answer.shut;
+  health = answer.health;
 }
 
 -- by the status that tells why a head is turned away
@@ -233,25 +233,43 @@ pub why_barred : (status : ℕ) (o : Option Barred) → Some status ≡ option_m
 why_barred status None is = absurd (cc)
 why_barred status (Some why) is = (why, refl, cc)
 
--- a head that is turned away hands nothing in and asks for nothing
-pub turned_away : (access : Access) (s : Standing) (t : Moment) (known mid : Option (List ℕ)) (got : List ℕ) (fields : List HeaderSpan) (spans : RequestSpans) (h : RequestHead) (why : Barred) (r : Response) (line : Option RequestLine) (sender : Option Who)
-    → length got ≤ most_head → length fields ≤ most_fields → IsRequestWithin got fields spans → IsRequestAt got fields spans h → Consumes known mid got → IfSome line (IsLineAt got spans)
-    → barred_at access.doors h ≡ Some why → r ≡ bare (status_of why) → sender ≡ None → IsExchange access s s known t r line sender
-turned_away access s t known mid got fields spans h why r line sender room many within at bytes copied is says unsent =
-    let rest = drop spans.len got ++ unwrap_or mid [] in
-    record {
-      input = got ++ unwrap_or mid [];
-      is_input = had_input known mid got bytes;
-      head = Some h;
-      rest = rest;
-      begins = head_within got (unwrap_or mid []) fields spans h room many within at;
-      told = told_of line got fields spans h at copied;
-      sent = subst (λ (b : Option Barred). TellsSender sender (command_past b access h rest) r) (sym is) (inl unsent);
-      answered =
-          subst (λ (b : Option Barred). IsAnswered s s t (command_past b access h rest) (λ L. answer_past b access s.warehouse L h rest t) r) (sym is)
-          (at_error s t (bare (status_of why)) r says);
-      shut = λ was asks. absurd (let d : false ≡ true = subst (λ (b : Option Barred). asks_past b access h rest ≡ true) is asks in cc);
-    }
+-- the answer to a head by how its request comes in
+module _ (access : Access) (known : Option (List ℕ)) (t : Moment) (h : RequestHead) (start : List ℕ) (r : Response) (sender : Option Who) where
+  abbrev Rest : List ℕ → List ℕ
+  Rest input = start ++ input
+
+  comes_in : (old new : Standing) (a : Admission) (input : List ℕ) → admission_of access h ≡ a → IsInput known input
+      → TellsSender sender (command_past a access h (Rest input)) r
+      → IsAnswered old new t (command_past a access h (Rest input)) (λ L. answer_past a access old.warehouse L h (Rest input) t) r
+      → IsShutAnswer old (asks_past a access h (Rest input)) r → IsExchangeOf access old new known t h start r sender (is_health a)
+  comes_in old new a input e is_input sent answered shut = record {
+    input = input;
+    is_input = is_input;
+    sent = subst (λ (b : Admission). TellsSender sender (command_past b access h (Rest input)) r) (sym e) sent;
+    answered = subst (λ (b : Admission). IsAnswered old new t (command_past b access h (Rest input)) (λ L. answer_past b access old.warehouse L h (Rest input) t) r) (sym e) answered;
+    shut = subst (λ (b : Admission). IsShutAnswer old (asks_past b access h (Rest input)) r) (sym e) shut;
+    health = ap is_health (sym e);
+  }
+
+  -- one that is turned away hands nothing in and asks for nothing
+  pub turned_away : (s : Standing) (why : Barred) → barred_at access.doors h ≡ Some why → r ≡ bare (status_of why) → sender ≡ None
+      → IsExchangeOf access s s known t h start r sender false
+  turned_away s why is says unsent =
+      comes_in s s (TurnedAway why) (unwrap_or known []) (ap (λ (o : Option Barred). admission_by o (leads_to_health access h.target)) is) (own_input known)
+      (inl unsent) (at_error s t (bare (status_of why)) r says) (λ was asks. cc)
+
+  -- one for the health of the book only looks
+  pub health_told : (old new : Standing) (told : Response) → barred_at access.doors h ≡ None → leads_to_health access h.target ≡ true → r ≡ told → sender ≡ None
+      → IsRequestServed old new t None (health_response (head_of h)) (health_asks (head_of h)) IsShutResponse told
+      → IsExchangeOf access old new known t h start r sender true
+  health_told old new told past leads same unsent is =
+      let served = subst (λ (k : Response). IsRequestServed old new t None (health_response (head_of h)) (health_asks (head_of h)) IsShutResponse k) (sym same) is in
+      comes_in old new ForHealth (unwrap_or known []) (rw (past, leads) refl) (own_input known) (inl unsent) served.answered served.shut
+
+  -- any other is answered by what it asks for
+  pub let_in : (old new : Standing) → barred_at access.doors h ≡ None → leads_to_health access h.target ≡ false
+      → IsExchangeAfter (asker_at access h) access.audience old new known t h start r sender → IsExchangeOf access old new known t h start r sender false
+  let_in old new past leads is = comes_in old new LetIn is.input (rw (past, leads) refl) is.is_input is.sent is.answered is.shut
 
 -- no head, whoever is served: nothing is handed in
 unsent_by : (audience : Audience) (r : Response) (sender : Option Who) → sender ≡ None → TellsSender sender (command_in audience None []) r
@@ -264,7 +282,7 @@ headless Partners s t r is = at_error s t (bare 400) r is
 headless Clerks s t r is = at_error s t (bare 400) r is
 
 pub headless_answer : (access : Access) (s : Standing) (t : Moment) (known mid : Option (List ℕ)) (got : List ℕ) (r : Response) (sender : Option Who)
-    → Consumes known mid got → HasNoHead (got ++ unwrap_or mid []) → r ≡ bare 400 → sender ≡ None → IsExchange access s s known t r None sender
+    → Consumes known mid got → HasNoHead (got ++ unwrap_or mid []) → r ≡ bare 400 → sender ≡ None → IsExchange access s s known t r None sender false
 headless_answer access s t known mid got r sender bytes none is unsent = record {
   input = got ++ unwrap_or mid [];
   is_input = had_input known mid got bytes;
@@ -275,4 +293,5 @@ headless_answer access s t known mid got r sender bytes none is unsent = record 
   sent = unsent_by access.audience r sender unsent;
   answered = headless access.audience s t r is;
   shut = λ was yes. cc;
+  health = refl;
 }

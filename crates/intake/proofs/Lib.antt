@@ -13,11 +13,15 @@ pub mod Asked
 pub mod Sent
 pub mod Answering
 pub mod Called
+pub mod Looked
 pub mod RowsCalls
 pub mod RowsLines
 pub mod RowsHeads
+pub mod RowsHealth
 pub mod Inserting
 pub mod Beginnings
 pub mod Whole
+pub mod Counted
 pub mod Told
+pub mod Probes
 pub mod Others

@@ -1,5 +1,5 @@
 -- what another depositor has isn't reached, and what another sent isn't handed in
-use Rattle.std.proofs.Common.{◌≡◌, ℕ, Bool, true, false, List, Option, Some, None, Result, Err, Ok, refl, sym, ap, ◌∙◌, subst, if◌then◌else◌}
+use Rattle.std.proofs.Common.{◌≡◌, ℕ, Bool, true, false, List, Option, Some, None, Result, Err, Ok, refl, ap, subst, if◌then◌else◌}
 use Rattle.httparse.specs.Grammar.{RequestHead}
 use Rattle.profile.specs.Header.{Who}
 use Rattle.profile.specs.Moments.{Moment}

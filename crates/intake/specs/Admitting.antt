@@ -1,5 +1,5 @@
 -- What a request asks for, and which requests a server turns away by their heads.
-use Rattle.std.specs.Prelude.{ℕ, Bool, false, List, Option, Some, None, map, option_map}
+use Rattle.std.specs.Prelude.{ℕ, Bool, true, false, List, Option, Some, None, map, option_map}
 use Rattle.httparse.specs.Grammar.{RequestHead}
 use Rattle.httparse.specs.Spans.{name_and_value}
 use Rattle.doors.specs.Doors.{barred_of, names_of, status_of}
@@ -15,6 +15,7 @@ use Rattle.doors.specs.Askers.{asker_of}
 use Rattle.intake.specs.Asking.{asks_in, asks_with}
 use Rattle.intake.specs.Calls.{Call, call_of}
 use Rattle.intake.specs.Fields.{head_of}
+use Rattle.intake.specs.Health.{leads_to_health, health_response, health_asks}
 use Rattle.intake.specs.Targets.{ToCall, asked_with, command_with, response_with, target_of}
 use Rattle.doors.specs.declared.askers.Asker.{Asker}
 use Rattle.doors.specs.declared.askers.Asker.TheVariants.{Unnamed}
@@ -71,9 +72,19 @@ asks_for asker audience h rest =
 
 -- Which requests are turned away.
 
--- partners are served, nobody is turned away, and nobody is to say for whom a request is asked
+-- partners are served, nobody is turned away, nobody is to say for whom a request is asked, and no
+-- health is told
 abbrev pub of_partners : Access
-of_partners = record { audience = Partners; doors = None; from = None }
+of_partners = record { audience = Partners; doors = None; from = None; tells_health = false }
+
+-- an access that tells no health, and is the same else
+abbrev pub without_health : Access → Access
+without_health access = record {
+  audience = access.audience;
+  doors = access.doors;
+  from = access.from;
+  tells_health = false;
+}
 
 -- why a request is turned away at these doors; where there are none, no request is
 abbrev pub barred_at : Option Doors → RequestHead → Option Barred
@@ -85,32 +96,61 @@ barred_at (Some doors) h =
 abbrev pub asker_at : Access → RequestHead → Asker
 asker_at access h = asker_of access.from (map name_and_value h.fields)
 
--- the command that a request submits: one that is turned away submits none
-abbrev pub command_past : Option Barred → Access → RequestHead → List ℕ → Option Command
-command_past None access h rest = command_for (asker_at access h) access.audience h rest
-command_past (Some why) access h rest = None
+-- how a request comes in: it is turned away; it is for the health of the book, whoever asks;
+-- or it asks as any other
+pub data Admission : Type 0 where
+  TurnedAway : Barred → Admission
+  ForHealth : Admission
+  LetIn : Admission
+
+abbrev pub admission_by : Option Barred → Bool → Admission
+admission_by (Some why) is_health = TurnedAway why
+admission_by None true = ForHealth
+admission_by None false = LetIn
+
+abbrev pub admission_of : Access → RequestHead → Admission
+admission_of access h =
+    admission_by (barred_at access.doors h) (leads_to_health access h.target)
+
+-- the command that a request submits: one that is turned away submits none, nor does one for the
+-- health of the book
+abbrev pub command_past : Admission → Access → RequestHead → List ℕ → Option Command
+command_past LetIn access h rest = command_for (asker_at access h) access.audience h rest
+command_past ForHealth access h rest = None
+command_past (TurnedAway why) access h rest = None
 
 abbrev pub command_by : Access → Option RequestHead → List ℕ → Option Command
 command_by access None rest = command_in access.audience None rest
-command_by access (Some h) rest = command_past (barred_at access.doors h) access h rest
+command_by access (Some h) rest = command_past (admission_of access h) access h rest
 
 -- the response to it: to one that is turned away, the status that says why
-abbrev pub answer_past : Option Barred → Access → Who → List Entry → RequestHead → List ℕ → Moment
+abbrev pub answer_past : Admission → Access → Who → List Entry → RequestHead → List ℕ → Moment
     → Response
-answer_past None access W L h rest t =
+answer_past LetIn access W L h rest t =
     answer_for (asker_at access h) access.audience W L h rest t
-answer_past (Some why) access W L h rest t = bare (status_of why)
+answer_past ForHealth access W L h rest t = health_response (head_of h) L
+answer_past (TurnedAway why) access W L h rest t = bare (status_of why)
 
 abbrev pub answer_by : Access → Who → List Entry → Option RequestHead → List ℕ → Moment → Response
 answer_by access W L None rest t = answer_of access.audience W L None rest t
-answer_by access W L (Some h) rest t =
-    answer_past (barred_at access.doors h) access W L h rest t
+answer_by access W L (Some h) rest t = answer_past (admission_of access h) access W L h rest t
 
 -- whether it asks the book for anything
-abbrev pub asks_past : Option Barred → Access → RequestHead → List ℕ → Bool
-asks_past None access h rest = asks_for (asker_at access h) access.audience h rest
-asks_past (Some why) access h rest = false
+abbrev pub asks_past : Admission → Access → RequestHead → List ℕ → Bool
+asks_past LetIn access h rest = asks_for (asker_at access h) access.audience h rest
+asks_past ForHealth access h rest = health_asks (head_of h)
+asks_past (TurnedAway why) access h rest = false
 
 abbrev pub asks_by : Access → Option RequestHead → List ℕ → Bool
 asks_by access None rest = asks_in access.audience None rest
-asks_by access (Some h) rest = asks_past (barred_at access.doors h) access h rest
+asks_by access (Some h) rest = asks_past (admission_of access h) access h rest
+
+-- whether it is one for the health of the book that was let in
+abbrev pub is_health : Admission → Bool
+is_health ForHealth = true
+is_health (TurnedAway why) = false
+is_health LetIn = false
+
+abbrev pub is_health_by : Access → Option RequestHead → Bool
+is_health_by access None = false
+is_health_by access (Some h) = is_health (admission_of access h)

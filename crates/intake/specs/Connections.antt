@@ -1,11 +1,12 @@
 -- What a server tells of its connections.
-use Rattle.std.specs.Prelude.{◌≡◌, ◌⊎◌, ℕ, false, List, Option, Some, None, Err, length, map, All, IfOk, IfErr, OnErr, MatchOption}
+use Rattle.std.specs.Prelude.{◌≡◌, ◌⊎◌, ℕ, ◌≤◌, ◌^◌, ◌-◌, false, not, count_by, List, Option, Some, None, Err, length, map, All, IfOk, IfErr, OnErr, MatchOption}
 use Rattle.std.specs.List.{FoldsTo}
 use Rattle.profile.specs.Moments.{Moment}
 use Rattle.store.specs.Standing.{Standing, IsUnchanged, GoesOn}
 use Rattle.store.specs.Fault.TheVariants.{Device}
 use Rattle.intake.specs.Serving.{IsResponseWritten, IsUnread, IsUnwritten}
-use Rattle.std.specs.declared.net.socket_addr.SocketAddr.{SocketAddr}
+use Rattle.peers.specs.declared.listener.PeerAddress.{PeerAddress}
+use Rattle.peers.specs.declared.listener.PeerAddress.TheVariants.{Inet}
 use Rattle.intake.specs.declared.audience.Access.{Access}
 use Rattle.intake.specs.declared.callers.Caller.{Caller}
 use Rattle.intake.specs.declared.callers.Caller.TheVariants as callers
@@ -19,8 +20,8 @@ abbrev pub moment_of : Connection → Moment
 moment_of c = c.moment
 
 -- where a connection comes from that is to be served
-abbrev pub address_of : Caller → SocketAddr
-address_of (callers.Direct stream peer) = peer
+abbrev pub address_of : Caller → PeerAddress
+address_of (callers.Direct stream peer) = Inet peer
 address_of (callers.Gathered arrival) = arrival.peer.address
 
 -- A connection that was accepted: there is what its peer sent and what was written to it, where
@@ -36,12 +37,12 @@ pub record IsServedOn (access : Access) (old new : Standing) (c : Connection) : 
   pub writes : ℕ × ℕ
   pub written : IfOk c.served.outcome
       (λ status. IsResponseWritten access old new known c.moment before later status c.served.line
-      c.served.sender c.served.bytes)
+      c.served.sender c.served.bytes c.served.is_health)
   pub stopped : OnErr c.served.outcome
       (IsUnread old new known before later reads.0 reads.1 c.served.line c.served.sender
-      c.served.bytes
+      c.served.bytes c.served.is_health
       ⊎ IsUnwritten access old new known c.moment before later writes.0 writes.1 c.served.line
-      c.served.sender c.served.bytes)
+      c.served.sender c.served.bytes c.served.is_health)
 
 -- The same of a connection whose request was gathered before: the response is that to the bytes
 -- that its own peer sent.
@@ -55,6 +56,7 @@ pub record IsNotAccepted (c : Connection) : Type 0 where
   pub line : c.served.line ≡ None
   pub sender : c.served.sender ≡ None
   pub bytes : c.served.bytes ≡ 0
+  pub health : c.served.is_health ≡ false
   pub millis : c.millis ≡ None
 
 -- what became of a connection, by whether it has a peer, and of the book meanwhile, which is as it
@@ -84,3 +86,23 @@ pub record HasTold
   pub handed : FoldsTo takes told connections last
   pub counted : length connections ≡ count
   pub outcomes : All IsConnectionOutcome connections
+
+-- how many of them count: those that asked for the health of the book don't
+abbrev pub counted_of : List Connection → ℕ
+counted_of connections = count_by (λ c. not c.served.is_health) connections
+
+-- more than any server lives to tell
+abbrev pub most_told : ℕ
+most_told = 2 ^ 64 - 1
+
+-- So many were told in all, of which so many count.
+pub record HasCounted
+    {K C T : Type 0} (serves : K → Connection → K → Type 0) (gives : C → Moment → C → Type 0)
+    (takes : T → Connection → T → Type 0) (book left : K) (clock after : C) (first last : T)
+    (total count : ℕ) : Type 0 where
+  pub told : HasTold serves gives takes book left clock after first last total
+  pub counted : counted_of told.connections ≡ count
+
+-- as many count as are wanted, or fewer if more were told than any server lives to tell
+abbrev pub IsEnough : ℕ → ℕ → ℕ → Type 0
+IsEnough total count wanted = (count ≡ wanted) ⊎ ((count ≤ wanted) × (total ≡ most_told))

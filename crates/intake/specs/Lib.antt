@@ -8,6 +8,7 @@ pub mod Targets
 pub mod Slips
 pub mod Asking
 pub mod Reaching
+pub mod Health
 pub mod Admitting
 pub mod Serving
 pub mod Connections

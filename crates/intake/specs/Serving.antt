@@ -15,7 +15,7 @@ use Rattle.intake.specs.Asking.{asks_with, route_asks, call_asks, target_asks, I
 use Rattle.gauges.specs.Inputs.{IsInput}
 use Rattle.intake.specs.Requests.{HasRequestHead, HasNoHead}
 use Rattle.intake.specs.Lines.{TellsOf, HasLine, TellsSender}
-use Rattle.intake.specs.Admitting.{answer_by, answer_for, asks_by, asks_for, command_by, command_for}
+use Rattle.intake.specs.Admitting.{answer_by, answer_for, asks_by, asks_for, command_by, command_for, is_health_by}
 use Rattle.intake.specs.Calls.{Call, call_command, call_resp}
 use Rattle.intake.specs.Targets.{Target, command_with, handed_in, response_with, target_command, target_resp}
 use Rattle.doors.specs.declared.askers.Asker.{Asker}
@@ -96,11 +96,12 @@ BeginsWith input None rest = HasNoHead input
 BeginsWith input (Some h) rest = HasRequestHead input h rest
 
 -- The response to what a reader has, with what became of the book, and what is told of the head and
--- of the sender. A request that is turned away by its head submits nothing and asks nothing. A book
--- that has to be opened again answers as `IsShutAnswer` says.
+-- of the sender, and whether the health of the book was asked for. A request that is turned away by
+-- its head submits nothing and asks nothing. A book that has to be opened again answers as
+-- `IsShutAnswer` says.
 pub record IsExchange
     (access : Access) (old new : Standing) (known : Option (List ℕ)) (t : Moment) (r : Response)
-    (line : Option RequestLine) (sender : Option Who) : Type 0 where
+    (line : Option RequestLine) (sender : Option Who) (is_health : Bool) : Type 0 where
   pub input : List ℕ
   pub is_input : IsInput known input
   pub head : Option RequestHead
@@ -111,9 +112,21 @@ pub record IsExchange
   pub answered : IsAnswered old new t (command_by access head rest)
       (λ L. answer_by access old.warehouse L head rest t) r
   pub shut : IsShutAnswer old (asks_by access head rest) r
+  pub health : is_health ≡ is_health_by access head
 
--- The same of a request whose head was read and that the doors don't turn away, with the first bytes
--- of what is after it.
+-- The same of a request whose head was read, with the first bytes of what is after it.
+pub record IsExchangeOf
+    (access : Access) (old new : Standing) (known : Option (List ℕ)) (t : Moment) (h : RequestHead)
+    (start : List ℕ) (r : Response) (sender : Option Who) (is_health : Bool) : Type 0 where
+  pub input : List ℕ
+  pub is_input : IsInput known input
+  pub sent : TellsSender sender (command_by access (Some h) (start ++ input)) r
+  pub answered : IsAnswered old new t (command_by access (Some h) (start ++ input))
+      (λ L. answer_by access old.warehouse L (Some h) (start ++ input) t) r
+  pub shut : IsShutAnswer old (asks_by access (Some h) (start ++ input)) r
+  pub health : is_health ≡ is_health_by access (Some h)
+
+-- The same of a request that the doors don't turn away, and that isn't for the health of the book.
 pub record IsExchangeAfter
     (asker : Asker) (audience : Audience) (old new : Standing) (known : Option (List ℕ))
     (t : Moment) (h : RequestHead) (start : List ℕ) (r : Response) (sender : Option Who)
@@ -126,13 +139,14 @@ pub record IsExchangeAfter
   pub shut : IsShutAnswer old (asks_for asker audience h (start ++ input)) r
 
 -- A response was written: it was that to what the reader had. What is told is its status, the line
--- of the request, who sent the interchange that was handed in, and how many bytes the response has.
+-- of the request, who sent the interchange that was handed in, how many bytes the response has, and
+-- whether the health of the book was asked for.
 pub record IsResponseWritten
     (access : Access) (old new : Standing) (known : Option (List ℕ)) (t : Moment)
     (before later : Option (List ℕ)) (status : ℕ) (line : Option RequestLine) (sender : Option Who)
-    (bytes : ℕ) : Type 0 where
+    (bytes : ℕ) (is_health : Bool) : Type 0 where
   pub response : Response
-  pub exchange : IsExchange access old new known t response line sender
+  pub exchange : IsExchange access old new known t response line sender is_health
   pub status_of : status ≡ response.status
   pub whole : Appends before later (response_bytes response)
   pub counted : bytes ≡ length (response_bytes response)
@@ -141,21 +155,22 @@ pub record IsResponseWritten
 -- where the head was read.
 pub record IsUnread
     (old new : Standing) (known before later : Option (List ℕ)) (errors more : ℕ)
-    (line : Option RequestLine) (sender : Option Who) (bytes : ℕ) : Type 0 where
+    (line : Option RequestLine) (sender : Option Who) (bytes : ℕ) (is_health : Bool) : Type 0 where
   pub book : IsUnchanged old new
   pub nothing : later ≡ before
   pub grew : Grew errors more
   pub told : IfSome line (HasLine known)
   pub sent : sender ≡ None
   pub counted : bytes ≡ 0
+  pub health : is_health ≡ false
 
 -- The writer failed: a beginning of the response was written, of so many bytes, and the book is as
 -- the request left it.
 pub record IsUnwritten
     (access : Access) (old new : Standing) (known : Option (List ℕ)) (t : Moment)
     (before later : Option (List ℕ)) (errors more : ℕ) (line : Option RequestLine)
-    (sender : Option Who) (bytes : ℕ) : Type 0 where
+    (sender : Option Who) (bytes : ℕ) (is_health : Bool) : Type 0 where
   pub response : Response
-  pub exchange : IsExchange access old new known t response line sender
+  pub exchange : IsExchange access old new known t response line sender is_health
   pub beginning : AppendsBeginning before later (response_bytes response) bytes
   pub grew : Grew errors more

@@ -23,6 +23,9 @@ pub struct Access<'n> {
     /// is that depositor's alone, and hands in what that one sent: else it is 403. The list of
     /// depositors is 403 then.
     pub from: Option<&'n str>,
+    /// Whether `GET /health` tells whoever asks that the book serves, and how far it goes. Such a
+    /// request doesn't count as a connection.
+    pub tells_health: bool,
 }
 
 /// That of all partners.
@@ -30,4 +33,5 @@ pub(crate) const OF_PARTNERS: Access<'static> = Access {
     audience: Audience::Partners,
     doors: None,
     from: None,
+    tells_health: false,
 };

@@ -22,6 +22,9 @@ pub trait Callers {
     /// How many milliseconds ago a connection was accepted.
     fn millis_of(&self, arrival: &Arrival) -> u64;
 
+    /// Lets one connection more be accepted in all, for one that doesn't count.
+    fn admit_one_more(&mut self);
+
     /// How many responses didn't leave whole since this was asked last.
     fn take_lost(&mut self) -> u32;
 }
@@ -46,6 +49,9 @@ impl Callers for OneByOne<'_> {
     fn millis_of(&self, _arrival: &Arrival) -> u64 {
         0
     }
+
+    // As many are accepted as are asked for.
+    fn admit_one_more(&mut self) {}
 
     fn take_lost(&mut self) -> u32 {
         0

@@ -11,10 +11,10 @@ use crate::targets::{find_target, has_body};
 use fields::{MOST_FIELDS, MOST_HEAD, is_among, values_of};
 use httparse::Status;
 use httparse::spans::{EMPTY_HEADER_SPAN, HeaderSpan, RequestSpans, parse_request};
-use peers::{Arrival, Framing, Limits, Next, Room};
+use peers::{Arrival, Framing, Limits, Listener, Next, Room};
 use std::alloc::Global;
 use std::io;
-use std::net::{Net, TcpListener};
+use std::net::Net;
 use std::rt::Clock;
 
 // How many connections are there at once, where nobody says otherwise.
@@ -85,12 +85,13 @@ pub struct Crowd<'q, 'n, Q> {
 }
 
 impl<'q, 'n, Q: Clock> Crowd<'q, 'n, Q> {
-    /// That of a listener, for so many connections in all; at once there are so many, 256 where
-    /// that is None. The error is the system's, or want of memory.
+    /// That of a listener, for so many connections in all, without those that ask for the health of
+    /// the book; at once there are so many, 256 where that is None. The error is the system's, or
+    /// want of memory.
     pub fn open<N: Net>(
         net: &N,
         alloc: Global,
-        listener: TcpListener,
+        listener: Listener,
         access: Access<'n>,
         count: u64,
         peers: Option<u16>,
@@ -141,6 +142,10 @@ impl<Q: Clock> Callers for Crowd<'_, '_, Q> {
 
     fn millis_of(&self, arrival: &Arrival) -> u64 {
         self.room.millis_of(arrival)
+    }
+
+    fn admit_one_more(&mut self) {
+        self.room.admit_one_more();
     }
 
     fn take_lost(&mut self) -> u32 {

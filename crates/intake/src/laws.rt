@@ -4,7 +4,8 @@ ghost use Rattle.httparse.specs.Grammar.{RequestHead};
 ghost use Rattle.profile.specs.Header.{Who};
 ghost use Rattle.profile.specs.Moments.{Moment};
 ghost use Rattle.profile.specs.Register.{Command, Entry};
-ghost use Rattle.profile.specs.Response.{asked, bare, Nowhere};
+ghost use Rattle.profile.specs.Response.{asked, bare, Nowhere, Response};
+ghost use Rattle.store.specs.Standing.{IsUnchanged};
 ghost use Rattle.intake.specs.Reaching.{may_reach};
 ghost use Rattle.doors.specs.Askers.{may_send};
 ghost use Rattle.intake.specs.Calls.{call_of};
@@ -12,11 +13,15 @@ ghost use Rattle.intake.specs.Fields.{head_of};
 ghost use Rattle.intake.specs.Routes.{route_of};
 ghost use Rattle.intake.specs.Lines.{sender_in};
 ghost use Rattle.intake.specs.Targets.{target_of};
-ghost use Rattle.intake.specs.Admitting.{answer_for, answer_of, command_for, command_in};
+ghost use Rattle.intake.specs.Admitting.{answer_by, answer_for, answer_of, command_by, command_for, command_in, is_health_by, without_health};
 ghost use Rattle.doors.specs.declared.askers.Asker.{Asker};
-ghost use Rattle.intake.specs.Serving.{BeginsWith};
+ghost use Rattle.intake.specs.Serving.{BeginsWith, IsExchange};
+ghost use Rattle.intake.specs.declared.audience.Access.{Access};
+ghost use Rattle.intake.specs.declared.served.RequestLine.{RequestLine};
 ghost use Rattle.intake.specs.declared.audience.Audience.{Audience};
 ghost use Rattle.intake.specs.declared.audience.Audience.TheVariants.{Partners, Clerks};
+
+use store::Keeper;
 
 /// An input asks for one thing: no two readings of its beginning differ in what they ask for, and
 /// so in the response or in the interchange that is handed in.
@@ -64,4 +69,28 @@ pub fn others_are_turned_away()
     ensures senders { (asker : Asker) (audience : Audience) (h : RequestHead) (rest : List ℕ)
         (c : Command) → command_for asker audience h rest ≡ Some c
         → may_send asker (sender_in (Some c)) ≡ true }
+{}
+
+/// Where an access tells no health, no request is for it; and telling it changes nothing of any
+/// other request, which is answered, and submits a command, as where it isn't told.
+pub fn health_changes_no_other_answer()
+    ensures none { (access : Access) (head : Option RequestHead) → access.tells_health ≡ false
+        → is_health_by access head ≡ false }
+    ensures commands { (access : Access) (head : Option RequestHead) (rest : List ℕ)
+        → is_health_by access head ≡ false
+        → command_by access head rest ≡ command_by (without_health access) head rest }
+    ensures answers { (access : Access) (head : Option RequestHead) (rest : List ℕ)
+        → is_health_by access head ≡ false → (W : Who) (L : List Entry) (t : Moment)
+        → answer_by access W L head rest t ≡ answer_by (without_health access) W L head rest t }
+{}
+
+/// A request for the health of the book submits nothing, and however it is answered, the book is as
+/// it was.
+pub fn a_look_at_the_health_changes_nothing<K: Keeper>(before: &K, after: &K)
+    ensures commands { (access : Access) (head : Option RequestHead) (rest : List ℕ)
+        → is_health_by access head ≡ true → command_by access head rest ≡ None }
+    ensures book { (access : Access) (known : Option (List ℕ)) (t : Moment) (r : Response)
+        (line : Option RequestLine) (sender : Option Who)
+        → IsExchange access (K.standing before.now) (K.standing after.now) known t r line sender
+        true → IsUnchanged (K.standing before.now) (K.standing after.now) }
 {}

@@ -1,7 +1,8 @@
-ghost use Rattle.std.specs.Prelude.{◌≡◌, ◌⊎◌, ◌≤◌, ℕ, Some, None, true, false, OnOk, OnErr, IfErr, IfSome, IsErrOf};
+ghost use Rattle.std.specs.Prelude.{◌≡◌, ◌⊎◌, ℕ, ◌+◌, ◌-◌, ◌^◌, ◌<◌, ◌≤◌, if◌then◌else◌, Some, None, true, false, OnOk, OnErr, IfErr, IfSome, IsErrOf};
 ghost use Rattle.store.specs.Standing.{GoesOn};
 ghost use Rattle.intake.specs.Admitting.{of_partners};
-ghost use Rattle.intake.specs.Connections.{HasTold, address_of, IsConnection, IsNotAccepted, IsConnectionOutcome, IsServed, IsServedOn, IsServedOf};
+ghost use Rattle.peers.specs.declared.listener.PeerAddress.TheVariants.{Inet};
+ghost use Rattle.intake.specs.Connections.{HasTold, HasCounted, IsEnough, address_of, IsConnection, IsNotAccepted, IsConnectionOutcome, IsServed, IsServedOn, IsServedOf};
 
 use crate::audience::{Access, OF_PARTNERS};
 use crate::callers::{Caller, Callers, OneByOne};
@@ -9,7 +10,7 @@ use crate::patience::{Patience, Patient, StoppedClock};
 use crate::served::{Connection, Served};
 use crate::serving::serve_telling;
 use gauges::Gauge;
-use peers::Arrival;
+use peers::{Arrival, PeerAddress};
 use std::alloc::Global;
 use std::io::Read;
 use std::net::{Shutdown, SocketAddr, TcpListener, TcpStream};
@@ -59,7 +60,7 @@ fn serve_on<K: Keeper, Q: Clock>(
     patience: &Patience<'_, Q>,
 ) -> Connection
     ensures moment { result.moment ≡ moment }
-    ensures peer { result.peer ≡ Some peer }
+    ensures peer { result.peer ≡ Some (Inet peer) }
     ensures outcome { IsConnectionOutcome result }
     ensures served { IsServedOn access.entry (K.standing keeper.old) (K.standing keeper.new)
         result }
@@ -75,7 +76,7 @@ fn serve_on<K: Keeper, Q: Clock>(
     }
     Connection {
         moment,
-        peer: Some(peer),
+        peer: Some(PeerAddress::Inet(peer)),
         served,
         millis,
         lost: 0,
@@ -131,6 +132,7 @@ fn not_accepted(moment: Moment) -> Connection
             line: None,
             sender: None,
             bytes: 0,
+            is_health: false,
         },
         millis: None,
         lost: 0,
@@ -167,16 +169,30 @@ fn serve_next<K: Keeper, L: Callers, Q: Clock>(
     }
 }
 
+// Counts a connection, unless it asked for the health of the book: then one more may come.
+fn count_next<L: Callers>(callers: &mut L, connection: &Connection, counted: u64) -> u64
+    requires { counted < 2 ^ 64 - 1 }
+
+    ensures { result ≡ if connection.now.served.is_health then counted else counted + 1 }
+{
+    if connection.served.is_health {
+        callers.admit_one_more();
+        return counted;
+    }
+    counted + 1
+}
+
 /// Serves that many connections to those who have access, one after the other, each at the moment
 /// that `clock` gives once it is its turn, and hands each to `told` with what became of it: the
 /// status that was answered, or Device (44). A request or a response that takes longer than the
 /// patience is Device too. An accept that fails is Device at the moment that `clock` gives then,
-/// and counts as a connection.
+/// and counts as a connection. One that asks for the health of the book is served and told, and
+/// doesn't count; after 2^64 - 1 in all, more than any server lives to tell, no more are served.
 ///
 /// A fault ends it, and no more connections are served then. It is Device (44) where `admits`,
 /// which is asked before anything of a connection is read, says no; that connection is closed
 /// without an answer, and isn't told. It is Reopen (42) where the book has to be opened again. Else
-/// `told` is handed exactly that many.
+/// `told` is handed exactly that many that count.
 ///
 /// So the book goes from connection to connection, of the very ones that are told, in their order:
 /// each is as `IsServed` says of its book before, which needn't be opened again, and after.
@@ -208,16 +224,22 @@ pub fn serve_within<
     ensures device { IsErrOf result Fault.Device → (x : A) × (y : A) × A.step x false y }
     ensures opened { OnOk result ((K.standing keeper.new).shut ≡ false) }
     ensures shut { IsErrOf result Fault.Reopen → (K.standing keeper.new).shut ≡ true }
-    ensures served { OnOk result ((after : C) × (last : T)
-        × HasTold (λ book c left. IsServed access.entry (K.standing book) (K.standing left) c)
-        C.step (λ p x q. T.step p x tt q) keeper.old keeper.new clock after told last count) }
-    ensures ended { OnErr result ((n : ℕ) × (n ≤ count) × ((after : C) × (last : T)
-        × HasTold (λ book c left. IsServed access.entry (K.standing book) (K.standing left) c)
-        C.step (λ p x q. T.step p x tt q) keeper.old keeper.new clock after told last n)) }
+    ensures served { OnOk result ((total : ℕ) × (n : ℕ) × IsEnough total n count
+        × ((after : C) × (last : T) × HasCounted
+        (λ book c left. IsServed access.entry (K.standing book) (K.standing left) c)
+        C.step (λ p x q. T.step p x tt q) keeper.old keeper.new clock after told last total n)) }
+    ensures ended { OnErr result ((total : ℕ) × (n : ℕ) × (n ≤ count)
+        × ((after : C) × (last : T) × HasCounted
+        (λ book c left. IsServed access.entry (K.standing book) (K.standing left) c)
+        C.step (λ p x q. T.step p x tt q) keeper.old keeper.new clock after told last total n)) }
 {
-    for _ in 0..count {
+    let mut counted = 0u64;
+    for _ in 0..u64::MAX {
         if keeper.must_reopen() {
             return Err(Fault::Reopen);
+        }
+        if counted == count {
+            return Ok(());
         }
         let accepted = callers.next_caller();
         if !admits() {
@@ -225,6 +247,7 @@ pub fn serve_within<
         }
         let moment = clock();
         let connection = serve_next(alloc, callers, accepted, keeper, access, moment, patience);
+        counted = count_next(callers, &connection, counted);
         told(connection);
     }
     if keeper.must_reopen() {

@@ -5,8 +5,8 @@ ghost use Rattle.profile.specs.Header.{who_text};
 ghost use Rattle.intake.specs.Lines.{sender_text};
 
 use http::StatusCode;
+use peers::PeerAddress;
 use std::io;
-use std::net::SocketAddr;
 use store::{Fault, Moment, Who};
 
 /// The method and the path of a request, as they stand in its head.
@@ -32,6 +32,8 @@ pub struct Served {
     pub sender: Option<Who>,
     /// How many bytes of the response were written, its head among them.
     pub bytes: u64,
+    /// Whether it asked for the health of the book, and was let in (`Access`).
+    pub is_health: bool,
 }
 
 /// Writes who sent an interchange, as a line tells it: `QQ-ID`, or `-` where nobody is told. An
@@ -51,8 +53,8 @@ pub fn write_sender<W: io::Write>(out: &mut W, sender: &Option<Who>) -> io::Resu
 pub struct Connection {
     /// The moment at which its request was handed in.
     pub moment: Moment,
-    /// The address of its peer. None where it couldn't be accepted.
-    pub peer: Option<SocketAddr>,
+    /// Where its peer is. None where it couldn't be accepted.
+    pub peer: Option<PeerAddress>,
     /// What became of its request.
     pub served: Served,
     /// The milliseconds from its acceptance to the end of its response. None where it couldn't be

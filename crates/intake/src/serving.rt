@@ -1,4 +1,4 @@
-ghost use Rattle.std.specs.Prelude.{◌≡◌, ◌⊎◌, ℕ, Option, length, drop, OnErr, OnOk, IfOk, IfErr, IfSome, option_map, string_bytes};
+ghost use Rattle.std.specs.Prelude.{◌≡◌, ◌⊎◌, ℕ, Option, false, length, drop, OnErr, OnOk, IfOk, IfErr, IfSome, option_map, string_bytes};
 ghost use Rattle.httparse.specs.Grammar.{RequestHead};
 ghost use Rattle.httparse.specs.Spans.{IsRequestWithin, IsRequestAt};
 ghost use Rattle.profile.specs.Header.{Who as Partner};
@@ -8,10 +8,11 @@ ghost use Rattle.intake.specs.Admitting.{asker_at, barred_at, of_partners};
 ghost use Rattle.intake.specs.Answers.{number, seen};
 ghost use Rattle.gauges.specs.Gauges.{Grew};
 ghost use Rattle.intake.specs.Lines.{IsLineAt, HasLine};
-ghost use Rattle.intake.specs.Serving.{IsExchange, IsExchangeAfter, IsResponseWritten, IsUnread, IsUnwritten};
+ghost use Rattle.intake.specs.Serving.{IsExchange, IsExchangeAfter, IsExchangeOf, IsResponseWritten, IsUnread, IsUnwritten};
 
 use crate::audience::{Access, OF_PARTNERS};
 use crate::heading::{length_of, read_method};
+use crate::health::{answer_health, leads_to_health};
 use crate::reaching::may_reach;
 use crate::reading::{Content, Unread, read_body, read_head};
 use crate::replies::of_fault;
@@ -110,15 +111,6 @@ fn copied_line(
     Some(RequestLine { method, path })
 }
 
-// What was received.
-#[derive(Drop)]
-struct Received {
-    // What it is answered.
-    replied: Result<Replied, Unread>,
-    // Its method and its path, where a head was read and there was memory for a copy.
-    line: Option<RequestLine>,
-}
-
 /// The status by which the doors turn a request away whose head was read, if they do.
 pub(crate) fn barred(
     doors: Option<Doors<'_>>,
@@ -139,6 +131,67 @@ pub(crate) fn barred(
     })
 }
 
+// What a request whose head was read is answered.
+#[derive(Drop)]
+struct Answered {
+    replied: Replied,
+    // Whether it asked for the health of the book, and was let in.
+    is_health: bool,
+}
+
+// Answers a request whose head was read: turns it away by that, tells how far the book goes, or
+// answers it by what it asks for.
+fn answer_head<R: Read, K: Keeper>(
+    alloc: Global,
+    reader: &mut Gauge<R>,
+    keeper: &mut K,
+    access: Access<'_>,
+    got: &[u8],
+    fields: &[HeaderSpan],
+    spans: &RequestSpans,
+    moment: Moment,
+) -> Result<Answered, Unread>
+    requires { IsRequestWithin got.now fields.now spans.now }
+
+    ensures answered { IfOk result
+        (λ a. (h : RequestHead) → IsRequestAt got.now fields.now spans.now h
+        → IsExchangeOf access.entry (K.standing keeper.old) (K.standing keeper.new)
+        (R.remaining reader.old.inner) moment h (drop spans.now.len got.now)
+        (seen a.replied.response) a.replied.sender a.is_health) }
+    ensures same { OnErr result (IsUnchanged (K.standing keeper.old) (K.standing keeper.new)) }
+    ensures count { OnErr result (Grew reader.old.errors reader.new.errors) }
+    ensures quiet { OnOk result (reader.new.errors ≡ reader.old.errors) }
+    ensures goes { GoesOn (K.standing keeper.old) (K.standing keeper.new) }
+{
+    if let Some(status) = barred(access.doors, got, fields, spans) {
+        return Ok(Answered {
+            replied: unsent(bare_response(status)),
+            is_health: false,
+        });
+    }
+    if leads_to_health(access, spans.path.of(got)) {
+        let response = answer_health(alloc, keeper, got, fields, spans);
+        return Ok(Answered {
+            replied: unsent(response),
+            is_health: true,
+        });
+    }
+    let replied = answer(alloc, reader, keeper, access, got, fields, spans, moment)?;
+    Ok(Answered {
+        replied,
+        is_health: false,
+    })
+}
+
+// What was received.
+#[derive(Drop)]
+struct Received {
+    // What it is answered.
+    answered: Result<Answered, Unread>,
+    // Its method and its path, where a head was read and there was memory for a copy.
+    line: Option<RequestLine>,
+}
+
 // Reads one request, and answers it, or turns it away by its head. The copy of its line is made
 // last, so that it takes no memory that the answer needs.
 fn receive<R: Read, K: Keeper>(
@@ -148,15 +201,16 @@ fn receive<R: Read, K: Keeper>(
     access: Access<'_>,
     moment: Moment,
 ) -> Received
-    ensures answered { IfOk result.replied (λ replied.
+    ensures answered { IfOk result.answered (λ a.
         IsExchange access.entry (K.standing keeper.old) (K.standing keeper.new)
-        (R.remaining reader.old.inner) moment (seen replied.response) result.line replied.sender) }
-    ensures line { OnErr result.replied (IfSome result.line
+        (R.remaining reader.old.inner) moment (seen a.replied.response) result.line
+        a.replied.sender a.is_health) }
+    ensures line { OnErr result.answered (IfSome result.line
         (HasLine (R.remaining reader.old.inner))) }
-    ensures same { OnErr result.replied (IsUnchanged (K.standing keeper.old)
+    ensures same { OnErr result.answered (IsUnchanged (K.standing keeper.old)
         (K.standing keeper.new)) }
-    ensures count { OnErr result.replied (Grew reader.old.errors reader.new.errors) }
-    ensures quiet { OnOk result.replied (reader.new.errors ≡ reader.old.errors) }
+    ensures count { OnErr result.answered (Grew reader.old.errors reader.new.errors) }
+    ensures quiet { OnOk result.answered (reader.new.errors ≡ reader.old.errors) }
     ensures goes { GoesOn (K.standing keeper.old) (K.standing keeper.new) }
 {
     let mut buf = [0u8; MOST_HEAD];
@@ -164,27 +218,24 @@ fn receive<R: Read, K: Keeper>(
     let begun = match read_head(reader, &mut buf, &mut fields) {
         Ok(begun) => begun,
         Err(unread) => return Received {
-            replied: Err(unread),
+            answered: Err(unread),
             line: None,
         },
     };
     let spans = match &begun.head {
         Some(spans) => spans,
         None => return Received {
-            replied: Ok(unsent(bare_response(Status::BadRequest))),
+            answered: Ok(Answered {
+                replied: unsent(bare_response(Status::BadRequest)),
+                is_health: false,
+            }),
             line: None,
         },
     };
     let got = &buf[..begun.filled];
-    if let Some(status) = barred(access.doors, got, &fields, spans) {
-        return Received {
-            replied: Ok(unsent(bare_response(status))),
-            line: copied_line(alloc, got, &fields, spans),
-        };
-    }
-    let replied = answer(alloc, reader, keeper, access, got, &fields, spans, moment);
+    let answered = answer_head(alloc, reader, keeper, access, got, &fields, spans, moment);
     let line = copied_line(alloc, got, &fields, spans);
-    Received { replied, line }
+    Received { answered, line }
 }
 
 /// Reads one request, writes its response, and tells what became of them. The tests of a request
@@ -195,9 +246,11 @@ fn receive<R: Read, K: Keeper>(
 /// empty one or not all digits 400, above 1,048,576 413, a body that is cut off 400, and one that
 /// another depositor sent 403 (`Access`). Where clerks are served too, a deed with its sheet is
 /// tested as an interchange, and then: a part of its path that can't be read is 404, a text that is
-/// no sheet 422. A growth that is refused gives the 503 of 40; where only the copy of the method
-/// and the path is, these aren't told, and the answer is the same. Of an interchange that is handed
-/// in, its sender is told, also where it is refused.
+/// no sheet 422. Where the health of the book is told (`Access`), a request for it comes after the
+/// doors: 501 and 405 as above, else how far the book goes, or the 503 of the fault of the look. A
+/// growth that is refused gives the 503 of 40; where only the copy of the method and the path is,
+/// these aren't told, and the answer is the same. Of an interchange that is handed in, its sender
+/// is told, also where it is refused.
 ///
 /// The one fault is Device (44): the reader or the writer gave an error, or took 0 bytes. Where the
 /// reader did, nothing was written and the book is as it was; where the writer did, a beginning of
@@ -215,29 +268,33 @@ pub fn serve_telling<R: Read, W: Write, K: Keeper>(
         IsResponseWritten access.entry (K.standing keeper.old) (K.standing keeper.new)
         (R.remaining reader.old.inner) moment
         (W.contents writer.old.inner) (W.contents writer.new.inner) status result.line result.sender
-        result.bytes) }
+        result.bytes result.is_health) }
     ensures stopped { OnErr result.outcome (
         IsUnread (K.standing keeper.old) (K.standing keeper.new) (R.remaining reader.old.inner)
         (W.contents writer.old.inner) (W.contents writer.new.inner)
         reader.old.errors reader.new.errors result.line result.sender result.bytes
+        result.is_health
         ⊎ IsUnwritten access.entry (K.standing keeper.old) (K.standing keeper.new)
         (R.remaining reader.old.inner) moment
         (W.contents writer.old.inner) (W.contents writer.new.inner)
-        writer.old.errors writer.new.errors result.line result.sender result.bytes) }
+        writer.old.errors writer.new.errors result.line result.sender result.bytes
+        result.is_health) }
     ensures quiet { OnOk result.outcome ((reader.new.errors ≡ reader.old.errors)
         × (writer.new.errors ≡ writer.old.errors)) }
     ensures fault { IfErr result.outcome (λ fault. fault ≡ Fault.Device) }
     ensures goes { GoesOn (K.standing keeper.old) (K.standing keeper.new) }
 {
-    let Received { replied, line } = receive(alloc, reader, keeper, access, moment);
-    let Ok(replied) = replied else {
+    let Received { answered, line } = receive(alloc, reader, keeper, access, moment);
+    let Ok(answered) = answered else {
         return Served {
             outcome: Err(Fault::Device),
             line,
             sender: None,
             bytes: 0,
+            is_health: false,
         };
     };
+    let Answered { replied, is_health } = answered;
     let Replied { response, sender } = replied;
     match write_response(writer, &response) {
         Ok(bytes) => Served {
@@ -245,12 +302,14 @@ pub fn serve_telling<R: Read, W: Write, K: Keeper>(
             line,
             sender,
             bytes,
+            is_health,
         },
         Err(stop) => Served {
             outcome: Err(Fault::Device),
             line,
             sender,
             bytes: stop.sent,
+            is_health,
         },
     }
 }
@@ -267,16 +326,17 @@ pub fn serve_one<R: Read, W: Write, K: Keeper>(
         (λ status. (line : Option RequestLine) × (sender : Option Partner) × (bytes : ℕ)
         × IsResponseWritten of_partners (K.standing keeper.old) (K.standing keeper.new)
         (R.remaining reader.old.inner) moment
-        (W.contents writer.old.inner) (W.contents writer.new.inner) status line sender bytes) }
+        (W.contents writer.old.inner) (W.contents writer.new.inner) status line sender bytes
+        false) }
     ensures stopped { OnErr result ((line : Option RequestLine) × (sender : Option Partner)
         × (bytes : ℕ) × (
         IsUnread (K.standing keeper.old) (K.standing keeper.new) (R.remaining reader.old.inner)
         (W.contents writer.old.inner) (W.contents writer.new.inner)
-        reader.old.errors reader.new.errors line sender bytes
+        reader.old.errors reader.new.errors line sender bytes false
         ⊎ IsUnwritten of_partners (K.standing keeper.old) (K.standing keeper.new)
         (R.remaining reader.old.inner) moment
         (W.contents writer.old.inner) (W.contents writer.new.inner)
-        writer.old.errors writer.new.errors line sender bytes)) }
+        writer.old.errors writer.new.errors line sender bytes false)) }
     ensures quiet { OnOk result ((reader.new.errors ≡ reader.old.errors)
         × (writer.new.errors ≡ writer.old.errors)) }
     ensures fault { IfErr result (λ fault. fault ≡ Fault.Device) }

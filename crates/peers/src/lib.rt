@@ -2,13 +2,18 @@
 //! responses leave as far as their peers take them, so that no peer waits for another.
 #![tactic(auto)]
 
+mod arrival;
 mod gathered;
+mod listener;
 mod peer;
 mod room;
 mod sending;
 mod streams;
 
+pub use arrival::Arrival;
 pub use gathered::{End, Gathered};
+pub use listener::{Listener, PeerAddress};
 pub use peer::Framing;
-pub use room::{Arrival, Limits, Next, Room};
+pub use room::{Limits, Next, Room};
 pub use sending::Sending;
+pub use streams::PeerStream;

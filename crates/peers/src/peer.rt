@@ -4,9 +4,9 @@ ghost use Rattle.std.specs.Io.KnownBytes.{Appends, Consumes, Keeps, append_known
 ghost use Rattle.peers.specs.Gains.{Gains};
 
 use crate::gathered::{End, Gathered};
+use crate::listener::PeerAddress;
 use crate::streams::Stream;
 use std::io::{ErrorKind, Read, Write};
-use std::net::SocketAddr;
 use std::time::Duration;
 
 // How many bytes are read of a connection at once.
@@ -48,7 +48,7 @@ pub(crate) enum Phase {
 pub(crate) struct Peer<T> {
     stream: T,
     /// Where it comes from.
-    pub address: SocketAddr,
+    pub address: PeerAddress,
     /// How far it is.
     pub phase: Phase,
     // What came of its request; later its response.
@@ -111,7 +111,7 @@ fn write_once<T: Write>(stream: &mut T, bytes: &[u8]) -> Option<usize>
 
 impl<T: Stream> Peer<T> {
     /// A connection that was accepted now.
-    pub(crate) fn new(stream: T, address: SocketAddr, empty: Vec<u8>, now: Duration) -> Peer<T> {
+    pub(crate) fn new(stream: T, address: PeerAddress, empty: Vec<u8>, now: Duration) -> Peer<T> {
         Peer {
             stream,
             address,

@@ -1,14 +1,15 @@
 //! The connections that are there at once, each at a place of its own.
-ghost use Rattle.std.specs.Prelude.{◌≡◌, []};
+ghost use Rattle.std.specs.Prelude.{◌≡◌, ◌+◌, ◌-◌, ◌^◌, min};
 
-use crate::gathered::{End, Gathered};
+use crate::arrival::Arrival;
+use crate::gathered::End;
+use crate::listener::{Entrance, Listener, PeerAddress};
 use crate::peer::{Framing, Peer, Phase};
-use crate::sending::Sending;
-use mio::net::{TcpListener, TcpStream};
-use mio::{Events, Interest, Poll, Token};
+use crate::streams::PeerStream;
+use mio::{Events, Poll, Token};
 use std::alloc::Global;
 use std::io::{self, ErrorKind};
-use std::net::{self, Net, SocketAddr};
+use std::net::Net;
 use std::rt::Clock;
 use std::time::Duration;
 
@@ -35,37 +36,6 @@ pub struct Limits {
     pub patience: Duration,
 }
 
-/// A connection of which no more of its request is read, taken out of the room to be answered.
-#[derive(Drop)]
-pub struct Arrival {
-    place: usize,
-    peer: Peer<TcpStream>,
-    end: End,
-}
-
-impl Arrival {
-    /// Where it comes from.
-    pub fn address(&self) -> SocketAddr
-        ensures { result ≡ self.now.peer.address }
-    {
-        self.peer.address
-    }
-
-    /// What came of its request.
-    pub fn reader(&self) -> Gathered<'_>
-        ensures { result.rest.now ≡ self.now.peer.bytes.items }
-    {
-        self.peer.reader(self.end)
-    }
-
-    /// What its response is written to.
-    pub fn writer(&self, alloc: Global) -> Sending<&TcpStream>
-        ensures none { result.kept.items ≡ [] }
-    {
-        Sending::new(alloc, self.peer.stream())
-    }
-}
-
 /// What comes next.
 #[derive(Drop)]
 pub enum Next {
@@ -74,7 +44,7 @@ pub enum Next {
     /// One that couldn't be accepted, or that the system couldn't be asked for.
     Nobody,
     /// A response didn't leave: its peer ended the connection, or didn't take it in time.
-    Lost(SocketAddr),
+    Lost(PeerAddress),
 }
 
 /// A room for connections.
@@ -85,14 +55,14 @@ pub struct Room<'q, Q> {
     limits: Limits,
     poll: Poll,
     events: Events,
-    listener: TcpListener,
+    entrance: Entrance,
     // Whether the listener may have a connection now.
     may_accept: bool,
-    places: Vec<Option<Peer<TcpStream>>>,
+    places: Vec<Option<Peer<PeerStream>>>,
 }
 
 // So many places, with nobody at them.
-fn empty_places(alloc: Global, count: u16) -> io::Result<Vec<Option<Peer<TcpStream>>>> {
+fn empty_places(alloc: Global, count: u16) -> io::Result<Vec<Option<Peer<PeerStream>>>> {
     let mut places = Vec::with_capacity(alloc, usize::from(count))?;
     for _ in 0..count {
         places.push(None)?;
@@ -113,22 +83,20 @@ impl<'q, Q: Clock> Room<'q, Q> {
     pub fn open<N: Net>(
         net: &N,
         alloc: Global,
-        listener: net::TcpListener,
+        listener: Listener,
         timer: &'q Q,
         limits: Limits,
     ) -> io::Result<Room<'q, Q>> {
-        listener.set_nonblocking(true)?;
-        let mut listener = TcpListener::from_std(listener);
+        let mut entrance = Entrance::open(listener)?;
         let poll = Poll::new(net)?;
-        poll.registry()
-            .register(&mut listener, Token(LISTENER), Interest::READABLE)?;
+        entrance.register(&poll, Token(LISTENER))?;
         Ok(Room {
             alloc,
             timer,
             limits,
             poll,
             events: Events::with_capacity(alloc, MOST_EVENTS)?,
-            listener,
+            entrance,
             may_accept: true,
             places: empty_places(alloc, limits.peers)?,
         })
@@ -203,7 +171,7 @@ impl<'q, Q: Clock> Room<'q, Q> {
     }
 
     // Takes out one whose response didn't leave, if there is one, and those that are over.
-    fn take_lost(&mut self) -> Option<SocketAddr> {
+    fn take_lost(&mut self) -> Option<PeerAddress> {
         for place in &mut self.places {
             let Some(peer) = place else {
                 continue;
@@ -306,17 +274,14 @@ impl<'q, Q: Clock> Room<'q, Q> {
 
     // Accepts one connection at a place; false where there is none now.
     fn accept_at(&mut self, place: usize, now: Duration) -> io::Result<bool> {
-        let (mut stream, address) = match self.listener.accept() {
+        let (mut stream, address) = match self.entrance.accept() {
             Err(error) if error.kind() == ErrorKind::WouldBlock => {
                 self.may_accept = false;
                 return Ok(false);
             }
             accepted => accepted?,
         };
-        let both = Interest::READABLE | Interest::WRITABLE;
-        self.poll
-            .registry()
-            .register(&mut stream, Token(place), both)?;
+        stream.register(&self.poll, Token(place))?;
         if let Some(free) = self.places.get_mut(place) {
             *free = Some(Peer::new(stream, address, Vec::new(self.alloc), now));
         }
@@ -371,6 +336,13 @@ impl<'q, Q: Clock> Room<'q, Q> {
         Next::Nobody
     }
 
+    /// Lets one connection more be accepted in all, for one that doesn't count.
+    pub fn admit_one_more(&mut self)
+        ensures { self.new.limits.count ≡ min (self.old.limits.count + 1) (2 ^ 64 - 1) }
+    {
+        self.limits.count = self.limits.count.saturating_add(1);
+    }
+
     /// How many milliseconds ago a connection was accepted.
     pub fn millis_of(&self, arrival: &Arrival) -> u64 {
         let took = self.now().saturating_sub(arrival.peer.accepted);
@@ -400,7 +372,7 @@ impl<'q, Q: Clock> Room<'q, Q> {
 
     /// Waits, with nobody more to be answered, until all responses have left. The result is the
     /// next peer whose response couldn't; None where there is no more of them.
-    pub fn finish<F: Framing>(&mut self, framing: &F) -> Option<SocketAddr> {
+    pub fn finish<F: Framing>(&mut self, framing: &F) -> Option<PeerAddress> {
         self.limits.count = 0;
         for _ in 0..u64::MAX {
             if let Some(address) = self.take_lost() {

@@ -44,7 +44,8 @@ module _ {S : Type 0} (store : Ghosts S) (database : Held S) where
   begun_old (job.Play text) t b not same ok = of_file t b same ok
   begun_old (job.Listen service first has_clock file) t b not same ok = of_file t b same ok
   begun_old (job.Seal first) t b not same ok = of_file t b same ok
-  begun_old job.Check t b not same ok = of_file t b same ok
+  begun_old (job.HandOn who dir) t b not same ok = of_file t b same ok
+  begun_old (job.Check noted) t b not same ok = of_file t b same ok
 
   -- what is handed back where there is none
   pub none_old : (j : Job) (t back : Kept S) (left : Held S) (f : Fault) → ((W : Who) → j ≢ job.Make W) → t.conn ≡ database → back.conn ≡ left → IsHandedBack store t f back
@@ -55,7 +56,8 @@ module _ {S : Type 0} (store : Ghosts S) (database : Held S) where
   none_old (job.Play text) t back left f not same last why = record { tables = t; handed = back; before = same; after = last; why = why }
   none_old (job.Listen service first has_clock file) t back left f not same last why = record { tables = t; handed = back; before = same; after = last; why = why }
   none_old (job.Seal first) t back left f not same last why = record { tables = t; handed = back; before = same; after = last; why = why }
-  none_old job.Check t back left f not same last why = record { tables = t; handed = back; before = same; after = last; why = why }
+  none_old (job.HandOn who dir) t back left f not same last why = record { tables = t; handed = back; before = same; after = last; why = why }
+  none_old (job.Check noted) t back left f not same last why = record { tables = t; handed = back; before = same; after = last; why = why }
 
   -- why none was made in a database that held nothing
   pub not_made : (W : Who) (t back : Kept S) (left : Held S) (f : Fault) → t.conn ≡ database → left ≡ back.conn → (state store database).now.schema ≡ no_layout

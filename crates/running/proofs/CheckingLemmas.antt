@@ -1,5 +1,5 @@
 -- What a check of the book in a database leaves of this, and when it says that this is no book.
-use Rattle.std.proofs.Common.{◌≡◌, ◌≢◌, ◌⊎◌, ◌<◌, ◌≤◌, inl, inr, IsTrue, ℕ, Bool, List, Some, Result, Ok, Err, IfOk, IfErr, refl, sym, ap, subst, ◌∙◌, arith}
+use Rattle.std.proofs.Common.{◌≡◌, ◌⊎◌, inl, inr, IsTrue, ℕ, Bool, true, false, List, Some, None, Result, Ok, Err, IfOk, IfErr, IsErrAnd, refl, sym, ap, subst, ◌∙◌, arith}
 use Rattle.std.specs.Prelude.{Option}
 use Rattle.sqlite.specs.Schema.{Schema}
 use Rattle.sqlite.specs.declared.error.Error.{Error}
@@ -27,7 +27,11 @@ use Rattle.books.specs.Keeping.{standing_in}
 use Rattle.commands.specs.declared.told.CommandError.{CommandError}
 use Rattle.commands.specs.declared.told.CommandError.TheVariants as stops
 use Rattle.commands.specs.Stops.{IsReasonStopped, fault_in}
-use Rattle.running.specs.Checking.{AreReadThrough, IsWholeNow, StaysCommitted, TellsWhole, WasFirst, committed_trees}
+use Rattle.seals.specs.declared.beginning.Beginning.{Beginning}
+use Rattle.sqlite.specs.Held.{Held}
+use Rattle.sqlite.specs.Store.{Ghosts}
+use Rattle.running.specs.Checking.{AreReadThrough, IsCheckStopped, IsWholeNow, StaysCommitted, TellsWhole, WasFirst, begins_as, committed_trees}
+use Rattle.running.specs.Unchecked.{IsLeftUnchecked}
 use Rattle.running.specs.Faults.{fault_of}
 use Rattle.running.proofs.StopLemmas.{sound_once, stands_as_read}
 
@@ -169,3 +173,27 @@ said_of old new (stops.Caused fault cause) h is = elim h [
   | inl told ↦ subst (λ f. IsQueryFault f old new) (some_is fault NotThisBook is) told
   | inr device ↦ absurd (elim device [ inl e ↦ cc e | inr e ↦ cc e ])
 ]
+
+-- or where its register doesn't begin as it was noted
+pub other_begins : (noted : Option Beginning) (old new : Standing) (stop : CommandError) → IsCheckStopped noted old new stop → fault_in stop ≡ Some NotThisBook
+    → new.doubt ≡ 0 → (L : List Entry) → old.keeps L → begins_as noted L ≡ false
+other_begins noted old new stop (inl h) is clean L keeps = let why = said_of old new stop h is in absurd (why.not_this refl clean L keeps)
+other_begins noted old new stop (inr h) is clean L keeps = h.other clean L keeps
+
+-- what is left where nothing was noted is left whatever was
+unnoted : {fault : Type 0} (noted : Option Beginning) (L : List Entry) → fault ⊎ (begins_as None L ≡ false) → fault ⊎ (begins_as noted L ≡ false)
+unnoted noted L (inl fault) = inl fault
+unnoted noted L (inr never) = absurd (let d : true ≡ false = never in cc)
+
+pub left_any : {S : Type 0} (store : Ghosts S) (database : Held S) (noted : Option Beginning) (stop : CommandError) → IsLeftUnchecked store database None stop → IsLeftUnchecked store database noted stop
+left_any store database noted stop h = record {
+  left = h.left;
+  clean = h.clean;
+  not_this = λ clean is q W L stands. unnoted noted L (h.not_this clean is q W L stands);
+  no_more = h.no_more;
+}
+
+-- what holds of an error holds of a result that is this error
+pub same_stop : {T E : Type 0} (r : Result T E) (stop : E) (P : E → Type 0) → IsErrAnd r (λ e. e ≡ stop) → P stop → IfErr r P
+same_stop (Ok x) stop P is p = tt
+same_stop (Err e) stop P is p = subst P (sym is) p

@@ -10,7 +10,7 @@ use Rattle.sqlite.specs.State.{State, HasCleanDisk}
 use Rattle.commands.specs.Acting.{Ending}
 use Rattle.commands.specs.declared.told.CommandError.{CommandError}
 use Rattle.commands.specs.declared.told.ExitStatus.{ExitStatus}
-use Rattle.running.specs.Ended.{IsBusy, IsJobEnded, IsRunOnce, IsToldAs}
+use Rattle.running.specs.Ended.{IsBusy, IsJobEnded, IsToldAs}
 use Rattle.running.specs.Checking.{IsFoundWhole}
 use Rattle.running.specs.FileEnds.{IsChecked, IsClosing, IsJobEnd, IsRunEnd, IsWholeFrom, IsWorkStop}
 use Rattle.running.specs.FromFile.{IsDoneFrom}
@@ -57,11 +57,12 @@ module _ {D W : Type 0} (disk : Disks D) (contents : W → Option (List ℕ)) (i
   untouched_never (job.Play text) ending h = never_untouched (job.Play text) ending h
   untouched_never (job.Listen service first has_clock file) ending h = never_untouched (job.Listen service first has_clock file) ending h
   untouched_never (job.Seal first) ending h = never_untouched (job.Seal first) ending h
-  untouched_never job.Check ending h = h
+  untouched_never (job.HandOn who dir) ending h = never_untouched (job.HandOn who dir) ending h
+  untouched_never (job.Check noted) ending h = h
 
 module _ {D W : Type 0} {disk : Disks D} (contents : W → Option (List ℕ)) (image : Image) where
   -- a job that isn't a check
-  pub job_ends : (j : Job) (before later : W) (ending : Ending) (files : FilesLeft D disk) → (j ≢ job.Check) → IsJobEnd contents image j before later ending files
+  pub job_ends : (j : Job) (before later : W) (ending : Ending) (files : FilesLeft D disk) → ((noted : _) → j ≢ job.Check noted) → IsJobEnd contents image j before later ending files
       → IsRunEnd contents image j before later ending files
   job_ends (job.Make W) before later ending files other h = h
   job_ends (job.Change ready moment) before later ending files other h = h
@@ -69,7 +70,8 @@ module _ {D W : Type 0} {disk : Disks D} (contents : W → Option (List ℕ)) (i
   job_ends (job.Play text) before later ending files other h = h
   job_ends (job.Listen service first has_clock file) before later ending files other h = h
   job_ends (job.Seal first) before later ending files other h = h
-  job_ends job.Check before later ending files other h = absurd (other refl)
+  job_ends (job.HandOn who dir) before later ending files other h = h
+  job_ends (job.Check noted) before later ending files other h = absurd (other noted refl)
 
   printed_nothing : (j : Job) (before later : W) (ending : Ending) (error : _) (leftover : _) → IsRunEnd {disk = disk} contents image j before later ending (left.Unopened error leftover) → later ≡ before
   printed_nothing (job.Make W) before later ending e l h = unopened_prints_nothing contents image (job.Make W) before later ending e l h
@@ -78,7 +80,8 @@ module _ {D W : Type 0} {disk : Disks D} (contents : W → Option (List ℕ)) (i
   printed_nothing (job.Play text) before later ending e l h = unopened_prints_nothing contents image (job.Play text) before later ending e l h
   printed_nothing (job.Listen service first has_clock file) before later ending e l h = unopened_prints_nothing contents image (job.Listen service first has_clock file) before later ending e l h
   printed_nothing (job.Seal first) before later ending e l h = unopened_prints_nothing contents image (job.Seal first) before later ending e l h
-  printed_nothing job.Check before later ending e l h = h
+  printed_nothing (job.HandOn who dir) before later ending e l h = unopened_prints_nothing contents image (job.HandOn who dir) before later ending e l h
+  printed_nothing (job.Check noted) before later ending e l h = h
 
   -- where the files are in use, nothing is printed
   pub busy_prints_nothing : (j : Job) (before later : W) (ending : Ending) (files : FilesLeft D disk) → IsRunEnd contents image j before later ending files → IsBusy files → later ≡ before

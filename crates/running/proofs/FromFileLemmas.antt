@@ -40,10 +40,11 @@ module _ {S W : Type 0} (store : Ghosts S) (contents : W → Option (List ℕ)) 
   work_goes (job.Change ready moment) old new before later ending h = h.0.doubt
   work_goes (job.Look asked) old new before later ending h = let same = h.same in let goes = same.goes in goes.doubt
   work_goes (job.Seal first) old new before later ending h = let same = h.same in let goes = same.goes in goes.doubt
+  work_goes (job.HandOn who dir) old new before later ending h = let goes = h.goes in goes.doubt
   work_goes (job.Play text) old new before later ending h = h.0.doubt
   work_goes (job.Listen service first has_clock file) old new before later ending h = h.0.doubt
   work_goes (job.Make house) old new before later ending h = subst (λ (b : Opened S). doubt (state store old.tables.conn).is_clean ≤ doubt (state store b.tables.conn).is_clean) (sym h.0) (omega arith)
-  work_goes job.Check old new before later ending h = subst (λ (b : Opened S). doubt (state store old.tables.conn).is_clean ≤ doubt (state store b.tables.conn).is_clean) (sym h.0) (omega arith)
+  work_goes (job.Check noted) old new before later ending h = subst (λ (b : Opened S). doubt (state store old.tables.conn).is_clean ≤ doubt (state store b.tables.conn).is_clean) (sym h.0) (omega arith)
 
   -- a job over a book that is there is over the one that is opened
   of_file : (j : Job) (database : Held S) (b : Opened S) → IsOfBook j → IsBegun store database j b → IsOfFile store database b
@@ -53,7 +54,8 @@ module _ {S W : Type 0} (store : Ghosts S) (contents : W → Option (List ℕ)) 
   of_file (job.Play text) database b of h = h
   of_file (job.Listen service first has_clock file) database b of h = h
   of_file (job.Seal first) database b of h = h
-  of_file job.Check database b of h = h
+  of_file (job.HandOn who dir) database b of h = h
+  of_file (job.Check noted) database b of h = h
 
   not_opened : (j : Job) (database left : Held S) (f : _) → IsOfBook j → IsNotBegun store database left j f → IsNotOpened store database left f
   not_opened (job.Make house) database left f of h = absurd (of house refl)
@@ -62,7 +64,8 @@ module _ {S W : Type 0} (store : Ghosts S) (contents : W → Option (List ℕ)) 
   not_opened (job.Play text) database left f of h = h
   not_opened (job.Listen service first has_clock file) database left f of h = h
   not_opened (job.Seal first) database left f of h = h
-  not_opened job.Check database left f of h = h
+  not_opened (job.HandOn who dir) database left f of h = h
+  not_opened (job.Check noted) database left f of h = h
 
   module _ (image : Image) (database left : Held S) (opens : HasCleanDisk (state store database) → Opens (state store database) × IsLive (state store database))
       (found : HasCleanDisk (state store database) → FindsIn image (state store database))

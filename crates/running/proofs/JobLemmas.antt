@@ -1,5 +1,5 @@
 -- What a line asks for, where nothing is said of files.
-use Rattle.std.proofs.Common.{◌≡◌, List, Ok, Err, OnOk}
+use Rattle.std.proofs.Common.{Ok, Err, OnOk}
 use Rattle.store.specs.Refusal.{Refusal}
 use Rattle.command_line.specs.declared.words.Task.{Task}
 use Rattle.command_line.specs.declared.words.Task.TheVariants as task
@@ -15,7 +15,8 @@ job_any reads (task.Init who) (job.Make warehouse) h = h
 job_any reads (task.Act a at) (job.Change ready moment) h = (made_any reads a ready h.0, h.1)
 job_any reads (task.Show s) (job.Look asked) h = h
 job_any reads (task.Batch file) (job.Play text) h = record { read = tt; within = h.within }
-job_any reads task.Verify job.Check h = h
+job_any reads (task.Verify text) (job.Check noted) h = h
+job_any reads (task.HandOn name dir) (job.HandOn who folder) h = h
 job_any reads (task.Seal text) (job.Seal first) h = h
 job_any reads (task.Serve s at) (job.Listen service first has_clock file) h = h
 job_any reads t j h = absurd h
@@ -24,6 +25,7 @@ pub no_job_any : (reads : Reads) (t : Task) (r : Refusal) → IsNoJobFor reads t
 no_job_any reads (task.Init who) r h = h
 no_job_any reads (task.Act a at) r h = unready_any reads a r h
 no_job_any reads (task.Show s) r h = h
+no_job_any reads (task.HandOn name dir) r h = h
 no_job_any reads t r h = absurd h
 
 -- why it was told as not ready

@@ -1,17 +1,17 @@
 -- A run over the files of a book that is stopped, and the next run over what they hold then.
-use Rattle.std.proofs.Common.{◌≡◌, ◌≢◌, ◌⊎◌, inl, inr, ◌≤◌, IsTrue, false, ℕ, List, [], Option, Some, None, Result, Ok, Err, IfOk, IfSome, OnErr, OnOk, refl, sym, ap, subst, ◌∙◌, arith}
-use Rattle.std.proofs.Math.Logic.{∥∥₁_elim, ∥∥₁_map}
+use Rattle.std.proofs.Common.{◌≡◌, ◌⊎◌, inl, inr, false, ℕ, List, [], Option, Some, None, Result, Ok, Err, IfOk, IfSome, OnErr, OnOk, refl, sym, ap, subst, ◌∙◌, arith}
+use Rattle.std.proofs.Math.Logic.{∥∥₁_map}
 use Rattle.sqlite_disk.specs.declared.Disk.{Ghosts as Disks}
 use Rattle.sqlite.specs.declared.FileStore.{FileStore}
 use Rattle.sqlite.specs.FileStore as files
 use Rattle.sqlite.specs.Files.{HoldsDatabase, over_files}
-use Rattle.sqlite.specs.Held.{AreDatabases, Held, state}
+use Rattle.sqlite.specs.Held.{Held, state}
 use Rattle.sqlite.specs.Recovery.{Image}
 use Rattle.sqlite.specs.State.{HasCleanDisk}
 use Rattle.sqlite.specs.Store.{Ghosts}
 use Rattle.sqlite.specs.Tree.{Trees}
 use Rattle.sqlite.proofs.Theorems.{opens_again}
-use Rattle.sqlite_trees.specs.View.{IsClean, doubt}
+use Rattle.sqlite_trees.specs.View.{IsClean}
 use Rattle.profile.specs.declared.rules.Rules.{Rules}
 use Rattle.profile.specs.declared.rules.Rules.TheVariants.{Two}
 use Rattle.profile.specs.Header.{Who}
@@ -20,7 +20,7 @@ use Rattle.profile.specs.Register.{Command, Entry}
 use Rattle.profile.specs.Reply.{Reply, Accepted, Stored}
 use Rattle.profile.specs.Accepted.{after, reply_to}
 use Rattle.store.specs.Again.{is_enrolment}
-use Rattle.store.specs.Standing.{Standing, GoesOn, IsUsable, LeavesEither}
+use Rattle.store.specs.Standing.{GoesOn}
 use Rattle.store.proofs.Again.{stored_again}
 use Rattle.store.proofs.Changes.{usable_stays}
 use Rattle.book_statements.specs.Carrying.{LeavesCarried}
@@ -28,11 +28,10 @@ use Rattle.book_statements.specs.Standing.{StandsIn}
 use Rattle.books.specs.Opened.{Opened, standing_of}
 use Rattle.commands.specs.Acting.{Ending, IsHandedIn}
 use Rattle.commands.specs.Telling.{IsPrinted}
-use Rattle.commands.specs.declared.acts.Ready.{Ready}
 use Rattle.commands.specs.declared.acts.Ready.TheVariants as ready
 use Rattle.commands.specs.declared.told.CommandError.{CommandError}
 use Rattle.commands.specs.declared.told.ExitStatus.{ExitStatus}
-use Rattle.running.specs.Done.{IsJobBroken, IsJobDone, IsNoBook}
+use Rattle.running.specs.Done.{IsJobBroken}
 use Rattle.running.specs.FromFile.{HoldsBook, IsDoneFrom, IsOfBook, IsStoppedFrom}
 use Rattle.running.specs.Opening.{IsBookOf}
 use Rattle.running.specs.Rerun.{FindsAnswered, HoldBook, HoldEither, IsDoneOver, IsLetGo, LeavesBook, MayHold, ResendIsStored, command_in}
@@ -60,13 +59,15 @@ handed_in store contents (job.Change (ready.Roster partners) m) c t is old new b
 handed_in store contents (job.Change (ready.Send bytes) m) c t is old new before later ending w =
     (w.0, subst (λ (p : Command × Moment). IsHandedIn (standing_of store old) (standing_of store new) p.0 p.1 (contents before) (contents later) ending) (cc) w.1)
 handed_in store contents (job.Change (ready.Take dir) m) c t is old new before later ending w = absurd (cc)
+handed_in store contents (job.Change (ready.TakeInto inbox) m) c t is old new before later ending w = absurd (cc)
 handed_in store contents (job.Change (ready.Clerk slip) m) c t is old new before later ending w =
     (w.0, subst (λ (p : Command × Moment). IsHandedIn (standing_of store old) (standing_of store new) p.0 p.1 (contents before) (contents later) ending) (cc) w.1)
 handed_in store contents (job.Look asked) c t is old new before later ending w = absurd (cc)
 handed_in store contents (job.Play text) c t is old new before later ending w = absurd (cc)
 handed_in store contents (job.Listen service first has_clock file) c t is old new before later ending w = absurd (cc)
 handed_in store contents (job.Seal first) c t is old new before later ending w = absurd (cc)
-handed_in store contents job.Check c t is old new before later ending w = absurd (cc)
+handed_in store contents (job.HandOn who dir) c t is old new before later ending w = absurd (cc)
+handed_in store contents (job.Check noted) c t is old new before later ending w = absurd (cc)
 
 module _ {D : Type 0} {disk : Disks D} (left : Held (FileStore D disk)) (it : FileStore D disk) (go : IsLetGo left it) (clean : IsClean (files.view it)) (then : Image) (may : MayHold it then) where
   was_clean : HasCleanDisk (state over_files left)

@@ -1,7 +1,10 @@
 -- What a check of the book in a database tells.
-use Rattle.std.specs.Prelude.{◌≡◌, ℕ, List, [], ◌∷◌, ◌++◌, Option, OnOk, codes, decimal, length, IsTrue}
+use Rattle.std.specs.Prelude.{◌≡◌, ◌⊎◌, ℕ, Bool, true, false, List, [], ◌∷◌, ◌++◌, Option, Some, None, OnOk, codes, decimal, length, IsTrue}
 use Rattle.std.specs.Io.KnownBytes.{Appends}
 use Rattle.profile.specs.Header.{Who}
+use Rattle.profile.specs.Register.{Entry}
+use Rattle.seals.specs.Noted.{beginning, begins_so}
+use Rattle.seals.specs.declared.beginning.Beginning.{Beginning}
 use Rattle.sqlite.specs.Effect.{Database, IsDatabase}
 use Rattle.sqlite.specs.State.{State, HasCleanDisk}
 use Rattle.sqlite.specs.Tree.{Trees}
@@ -11,16 +14,38 @@ use Rattle.book_tables.specs.Comparing.{AreTables, IsLaid}
 use Rattle.book_statements.specs.Layout.{IsLayout}
 use Rattle.books.specs.Verified.{StandsForMany}
 use Rattle.commands.specs.Acting.{Ending}
+use Rattle.commands.specs.Stops.{IsReasonStopped}
+use Rattle.commands.specs.declared.told.CommandError.{CommandError}
+use Rattle.commands.specs.declared.told.CommandError.TheVariants.{Fault}
+use Rattle.store.specs.Fault.TheVariants.{NotThisBook}
 
 -- what is printed of a book whose tables are what its register gives: how many entries it has
 abbrev pub told_whole : ℕ → List ℕ
 told_whole n = codes "ok " ++ decimal n ++ 10 ∷ []
 
+-- a register begins as it was noted, if that is given
+abbrev pub begins_as : Option Beginning → List Entry → Bool
+begins_as None L = true
+begins_as (Some noted) L = begins_so (beginning noted) L
+
 -- a book was checked whole, and is as before
 pub record IsChecked
-    (old new : Standing) (before later : Option (List ℕ)) (ending : Ending) : Type 0 where
-  pub told : OfAnyKept old new (λ L. OnOk ending (Appends before later (told_whole (length L))))
+    (noted : Option Beginning) (old new : Standing) (before later : Option (List ℕ))
+    (ending : Ending) : Type 0 where
+  pub told : OfAnyKept old new (λ L. OnOk ending (Appends before later (told_whole (length L))
+      × (begins_as noted L ≡ true)))
   pub same : IsUnchanged old new
+
+-- the register of a book doesn't begin as it was noted, and so it isn't this book (43)
+pub record IsOther
+    (noted : Option Beginning) (old new : Standing) (stop : CommandError) : Type 0 where
+  pub told : stop ≡ Fault NotThisBook
+  pub other : OfAnyKept old new (λ L. begins_as noted L ≡ false)
+
+-- why a book that was read anew wasn't found whole: a query failed, a table isn't what the register
+-- gives, or what was found couldn't be told; or it is another book
+abbrev pub IsCheckStopped : Option Beginning → Standing → Standing → CommandError → Type 0
+IsCheckStopped noted old new stop = IsReasonStopped old new stop ⊎ IsOther noted old new stop
 
 -- the database stands for a register, and how many entries that has is printed
 pub record TellsWhole (db : Database) (before later : Option (List ℕ)) : Type 0 where

@@ -1,5 +1,5 @@
 -- How a line of words ended, from what the files of its book held.
-use Rattle.std.specs.Prelude.{◌≡◌, ◌⊎◌, Bool, ◌||◌, ℕ, true, false, List, [], ◌∷◌, Option, Some, Result, Ok, Err, OnOk, map, bytes_eq, codes}
+use Rattle.std.specs.Prelude.{◌≡◌, ◌⊎◌, Bool, ◌||◌, ℕ, true, false, List, [], ◌∷◌, Option, Some, Ok, Err, OnOk, map, bytes_eq, codes}
 use Rattle.std.specs.Borrow.{Bor}
 use Rattle.std.specs.Option.{option_map_or}
 use Rattle.sqlite_disk.specs.declared.Disk.{Ghosts as Disks}

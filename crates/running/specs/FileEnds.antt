@@ -77,5 +77,5 @@ module _ {D : Type 0} {disk : Disks D} where
 
     -- the same of a check, or of another job
     abbrev pub IsRunEnd : Job → W → W → Ending → FilesLeft D disk → Type 0
-    IsRunEnd job.Check before later ending files = IsChecked before later files
+    IsRunEnd (job.Check noted) before later ending files = IsChecked before later files
     IsRunEnd j before later ending files = IsJobEnd j before later ending files

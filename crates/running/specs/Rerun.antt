@@ -1,6 +1,6 @@
 -- A run over the files of a book, stopped before they were closed, and the next run over what the
 -- files then hold.
-use Rattle.std.specs.Prelude.{◌≡◌, ◌⊎◌, ◌≤◌, IsTrue, false, ℕ, List, Option, Some, None, Result, OnErr, OnOk}
+use Rattle.std.specs.Prelude.{◌≡◌, ◌⊎◌, ◌≤◌, IsTrue, false, ℕ, List, Option, Some, None, OnErr, OnOk}
 use Rattle.sqlite_disk.specs.declared.Disk.{Ghosts as Disks}
 use Rattle.sqlite.specs.declared.FileStore.{FileStore}
 use Rattle.sqlite.specs.FileStore as files
@@ -23,7 +23,6 @@ use Rattle.commands.specs.Acting.{Ending}
 use Rattle.commands.specs.Clerks.{command_of}
 use Rattle.commands.specs.Telling.{IsPrinted}
 use Rattle.commands.specs.declared.acts.Ready.TheVariants as ready
-use Rattle.commands.specs.declared.told.CommandError.{CommandError}
 use Rattle.commands.specs.declared.told.ExitStatus.{ExitStatus}
 use Rattle.running.specs.Done.{IsJobDone}
 use Rattle.running.specs.FromFile.{HoldsBook, IsOfBook}

@@ -1,5 +1,5 @@
 -- Why a book in a database wasn't found whole.
-use Rattle.std.specs.Prelude.{◌≡◌, ◌⊎◌, ◌<◌, ◌≤◌, List, Some, IsTrue}
+use Rattle.std.specs.Prelude.{◌≡◌, ◌⊎◌, ◌<◌, ◌≤◌, false, List, Option, Some, IsTrue}
 use Rattle.sqlite.specs.Held.{Held, state}
 use Rattle.sqlite.specs.State.{HasCleanDisk}
 use Rattle.sqlite.specs.Store.{Ghosts}
@@ -14,24 +14,25 @@ use Rattle.book_statements.specs.Carrying.{StandsInAs}
 use Rattle.book_statements.specs.Kept.{Kept}
 use Rattle.books.specs.Opened.{Opened, standing_of}
 use Rattle.books.specs.Opening.{OfRegister}
-use Rattle.commands.specs.Stops.{IsReasonStopped, fault_in}
+use Rattle.commands.specs.Stops.{fault_in}
 use Rattle.commands.specs.declared.told.CommandError.{CommandError}
-use Rattle.running.specs.Checking.{WasFirst, committed_trees}
+use Rattle.running.specs.Checking.{IsCheckStopped, WasFirst, begins_as, committed_trees}
+use Rattle.seals.specs.declared.beginning.Beginning.{Beginning}
 use Rattle.running.specs.Faults.{IsReadFault}
 use Rattle.running.specs.Opening.{IsBookOf, IsOpenedAnew}
 
--- Its tables were read anew, and then a query failed, a table isn't what the register gives, or
--- what was found couldn't be told.
+-- Its tables were read anew, and then it wasn't found whole, or it is another book.
 pub record IsUnfound
-    {S : Type 0} (store : Ghosts S) (database : Held S) (stop : CommandError) : Type 0 where
+    {S : Type 0} (store : Ghosts S) (database : Held S) (noted : Option Beginning)
+    (stop : CommandError) : Type 0 where
   pub opened : Opened S
   pub anew : IsOpenedAnew store database opened
   pub left : Opened S
-  pub why : IsReasonStopped (standing_of store opened) (standing_of store left) stop
+  pub why : IsCheckStopped noted (standing_of store opened) (standing_of store left) stop
 
 -- they couldn't be read anew, or give no book; or it wasn't found whole
-abbrev pub IsUnchecked : {S : Type 0} → Ghosts S → Held S → CommandError → Type 0
-IsUnchecked store database stop = IsReadFault stop ⊎ IsUnfound store database stop
+abbrev pub IsUnchecked : {S : Type 0} → Ghosts S → Held S → Option Beginning → CommandError → Type 0
+IsUnchecked store database noted stop = IsReadFault stop ⊎ IsUnfound store database noted stop
 
 -- what is so of each register that what was committed to a database stands for, in either version
 abbrev pub OfCommitted : {S : Type 0} → Ghosts S → Held S → (Who → List Entry → Type 0) → Type 0
@@ -45,15 +46,17 @@ IsOfCommitted store database book = HasCleanDisk (state store book.tables.conn)
     → OfCommitted store database (IsBookOf store book)
 
 -- What is left of the store of a database in which no book was found whole. That it isn't this
--- book (43) is told only where what was committed stands for no register of a warehouse, or the disk
--- told of a fault; and a crash leaves no more than before, whatever was committed, but for a book of
+-- book (43) is told only where what was committed stands for no register of a warehouse, or for one
+-- that doesn't begin as it was noted, or the disk told of a fault; and a crash leaves no more than before, whatever was committed, but for a book of
 -- version 1, which is carried over first. Both if no answer of the disk was wrong.
 pub record IsLeftUnchecked
-    {S : Type 0} (store : Ghosts S) (database : Held S) (stop : CommandError) : Type 0 where
+    {S : Type 0} (store : Ghosts S) (database : Held S) (noted : Option Beginning)
+    (stop : CommandError) : Type 0 where
   pub left : S
   pub clean : doubt (state store database).is_clean ≤ doubt (store.view left).is_clean
   pub not_this : IsClean (store.view left) → fault_in stop ≡ Some NotThisBook
-      → OfCommitted store database (λ _ _. 0 < store.faults left)
+      → OfCommitted store database
+      (λ _ L. (0 < store.faults left) ⊎ (begins_as noted L ≡ false))
   pub no_more : IsClean (store.view left) → (WasFirst (state store database) → ⊥) → (db : Trees)
       → store.recovers left db → (state store database).may_leave db
 

@@ -5,15 +5,15 @@ use Rattle.profile.specs.Header.{who_of}
 use Rattle.profile.specs.Moments.{Moment}
 use Rattle.store.specs.Refusal.{Refusal}
 use Rattle.store.specs.Refusal.TheVariants.{BadText}
-use Rattle.store.specs.Standing.{Standing, GoesOn}
+use Rattle.store.specs.Standing.{Standing, GoesOn, IsUnchanged}
 use Rattle.commands.specs.Acting.{Ending, IsPerformed}
 use Rattle.commands.specs.Files.{IsWithin, Reads}
 use Rattle.commands.specs.Looking.{IsAskedFor, IsLook, is_readable}
 use Rattle.commands.specs.Playing.{HasPlayed, HasStopped, asking}
 use Rattle.commands.specs.Readying.{IsMadeReady, IsUnready}
 use Rattle.commands.specs.Shown.{IsLookAt, shown_seal}
-use Rattle.seals.specs.Noted.{entries_in}
-use Rattle.commands.specs.Serving.{HasServed, HasServedUpTo, access_of, count_of}
+use Rattle.seals.specs.Noted.{beginning, beginning_in, entries_in}
+use Rattle.commands.specs.Serving.{AfterLook, HasServed, HasServedUpTo, access_of, count_of}
 use Rattle.commands.specs.declared.files.TheConstants.{MOST_SCRIPT}
 use Rattle.commands.specs.declared.told.ExitStatus.TheVariants.{Done}
 use Rattle.running.specs.declared.over_file.Job.{Job}
@@ -35,7 +35,10 @@ IsJobFor reads (task.Act a at) (job.Change ready moment) = IsMadeReady reads a r
 IsJobFor reads (task.Show s) (job.Look asked) = IsAskedFor s asked
 IsJobFor reads (task.Batch file) (job.Play text) =
     IsWithin reads file.now MOST_SCRIPT (string_bytes text)
-IsJobFor reads task.Verify job.Check = Unit {0}
+IsJobFor reads (task.HandOn name dir) (job.HandOn who folder) = (who_of name.now ≡ Some who)
+    × (folder ≡ dir)
+IsJobFor reads (task.Verify text) (job.Check noted) =
+    option_map (λ t. beginning_in t.now) text ≡ option_map (λ b. Some (beginning b)) noted
 IsJobFor reads (task.Seal text) (job.Seal first) =
     option_map (λ t. entries_in t.now) text ≡ option_map (λ n. Some n) first
 IsJobFor reads (task.Serve s at) (job.Listen service first has_clock file) =
@@ -48,6 +51,7 @@ abbrev pub IsNoJobFor : Reads → Task → Refusal → Type 0
 IsNoJobFor reads (task.Init who) refusal = (refusal ≡ BadText) × (who_of who.now ≡ None)
 IsNoJobFor reads (task.Act a at) refusal = IsUnready reads a refusal
 IsNoJobFor reads (task.Show s) refusal = (refusal ≡ BadText) × (is_readable s ≡ false)
+IsNoJobFor reads (task.HandOn name dir) refusal = (refusal ≡ BadText) × (who_of name.now ≡ None)
 IsNoJobFor reads t refusal = ⊥
 
 -- the rows of a batch were played, to their end or up to one that stopped it
@@ -63,12 +67,12 @@ IsBatchPlayed standing contents text old before new later ending =
 abbrev pub IsService : {K : Type 0} → (K → Standing) → Service → Moment → Bool → K → K → Ending
     → Type 0
 IsService standing service first has_clock old new ending =
-    OnOk ending
-    (HasServed standing (access_of service) has_clock first old new
-    (count_of service.count))
-    × OnErr ending
-    (HasServedUpTo standing (access_of service) has_clock first old new
-    (count_of service.count))
+    OnOk ending (AfterLook standing old
+    (λ start. HasServed standing (access_of service) has_clock first start new
+    (count_of service.count)))
+    × OnErr ending (AfterLook standing old
+    (λ start. HasServedUpTo standing (access_of service) has_clock first start new
+    (count_of service.count)))
 
 -- What a job comes to over a book: what was made ready was done at its moment, what was asked for
 -- was shown, a text was played, a server served. Where the job is to make the book or to check it,
@@ -84,6 +88,8 @@ IsWork standing contents old before (job.Look asked) new later ending =
 IsWork standing contents old before (job.Seal first) new later ending =
     IsLookAt (standing old) (standing new) (shown_seal first) (contents before) (contents later)
     ending
+IsWork standing contents old before (job.HandOn who dir) new later ending =
+    IsUnchanged (standing old) (standing new)
 IsWork standing contents old before (job.Play text) new later ending =
     GoesOn (standing old) (standing new)
     × IsBatchPlayed standing contents (string_bytes text) old before new later ending

@@ -12,6 +12,7 @@ use crate::book_files::fault;
 use crate::checking::check_over;
 use crate::over_file::{Job, work_over};
 use commands::{CommandError, ExitStatus, Verbosity};
+use seals::Beginning;
 use sqlite::{Alter, Connection, Error, FileFrom, FileStore, Files, Leftover, Start};
 use sqlite_disk::Disk;
 use std::io;
@@ -132,6 +133,7 @@ fn check_from<S: Start, W: io::Write, E: io::Write>(
     rt: &HostRuntime,
     file: &str,
     start: S,
+    noted: &Option<Beginning>,
     verbosity: Verbosity,
     out: &mut W,
     err: &mut E,
@@ -139,7 +141,7 @@ fn check_from<S: Start, W: io::Write, E: io::Write>(
     ensures { IsChecked W.contents (image_at S.Start) out.old out.new result.files }
 {
     match Connection::open_from(rt, file, false, start) {
-        Ok(database) => match check_over(rt.alloc(), database, verbosity, out, err) {
+        Ok(database) => match check_over(rt.alloc(), database, noted, verbosity, out, err) {
             Ok((status, database)) => close_after(status, database),
             Err(stop) => Ended {
                 ending: Err(stop),
@@ -169,7 +171,7 @@ pub(crate) fn run_from<S: Start, W: io::Write, E: io::Write>(
         result.files }
 {
     match job {
-        Job::Check => check_from(rt, file, start, verbosity, out, err),
+        Job::Check(noted) => check_from(rt, file, start, noted, verbosity, out, err),
         _ => do_from(rt, file, start, job, verbosity, out, err),
     }
 }

@@ -12,11 +12,11 @@ use books::{Book, Tables};
 use command_line::{Service, Task};
 use commands::{
     CommandError, ExitStatus, FileNames, Look, Ready, ServedFile, TimeSource, Verbosity,
-    about_missing, ask, moment_for, perform, play_over, read_lines, ready_at, serve, show,
+    about_missing, ask, hand_on, moment_for, perform, play_over, read_lines, ready_at, serve, show,
     tell_reason, tell_seal, usage,
 };
 use folders::FileSystem;
-use seals::{Sealed, entries_in};
+use seals::{Beginning, Sealed, entries_in};
 use sqlite::{Alter, Connection};
 use std::alloc::Global;
 use std::io;
@@ -38,8 +38,11 @@ pub enum Job<'a> {
     Listen(Service<'a>, Moment, bool, ServedFile<'a>),
     /// Tell its seal: of so many entries, the first ones, or of all.
     Seal(Option<u64>),
-    /// Compare every table with what the register gives.
-    Check,
+    /// Write each document that went out to a depositor to a file of this folder.
+    HandOn(Who, &'a str),
+    /// Compare every table with what the register gives, and its first entries with those of a
+    /// beginning that was noted, if one is given.
+    Check(Option<Beginning>),
 }
 
 // Does a job over a book; what is to be made is made by then.
@@ -55,9 +58,10 @@ fn work<K: Sealed, W: io::Write, E: io::Write>(
         book.new out.new result }
 {
     match job {
-        Job::Make(_) | Job::Check => Ok(ExitStatus::Done),
+        Job::Make(_) | Job::Check(_) => Ok(ExitStatus::Done),
         Job::Change(ready, moment) => perform(rt, book, ready, *moment, verbosity, out, err),
         Job::Look(asked) => show(rt.alloc(), book, asked, out, err),
+        Job::HandOn(who, dir) => hand_on(rt, book, *who, *dir, out, err),
         Job::Seal(first) => tell_seal(rt.alloc(), book, *first, out, err),
         Job::Play(text) => play_over(rt, book, text, verbosity, out, err),
         Job::Listen(service, first, has_clock, file) => serve(
@@ -189,6 +193,20 @@ fn first_of(alloc: Global, text: Option<&str>) -> Result<Option<u64>, CommandErr
     }
 }
 
+// The beginning of a register that a line notes, if it does.
+fn noted_in(alloc: Global, text: Option<&str>) -> Result<Option<Beginning>, CommandError>
+    ensures { IfOk result (λ noted. option_map (λ t. meant.beginning_in t.now) text.entry
+        ≡ option_map (λ b. Some (meant.beginning b)) noted) }
+{
+    let Some(text) = text else {
+        return Ok(None);
+    };
+    match Beginning::read(text.as_bytes()) {
+        Some(noted) => Ok(Some(noted)),
+        None => Err(usage(alloc, "--seal wants N:DIGITS, as `whx12 seal` prints it\n")),
+    }
+}
+
 // What a line says is to be done over the book in a file, its words tested and its files read.
 pub(crate) fn job_of<'a, R: FileSystem + FileNames + TimeSource + AllocGlobal>(
     rt: &R,
@@ -212,7 +230,11 @@ pub(crate) fn job_of<'a, R: FileSystem + FileNames + TimeSource + AllocGlobal>(
             Err(refusal) => Ok(Err(refusal)),
         },
         Task::Batch { file } => Ok(Ok(Job::Play(read_lines(rt, file)?))),
-        Task::Verify => Ok(Ok(Job::Check)),
+        Task::HandOn { who, dir } => match Who::new(who.as_bytes()) {
+            Some(who) => Ok(Ok(Job::HandOn(who, *dir))),
+            None => Ok(Err(Refusal::BadText)),
+        },
+        Task::Verify { seal } => Ok(Ok(Job::Check(noted_in(rt.alloc(), *seal)?))),
         Task::Seal { first } => Ok(Ok(Job::Seal(first_of(rt.alloc(), *first)?))),
         Task::Serve { service, at } => {
             let first = moment_for(rt, *at)?;

@@ -1,20 +1,44 @@
 //! What a line says, done by a running server.
-use command_line::Task;
+use command_line::{Endpoint, Task};
 use commands::{CommandError, ExitStatus, Verbosity, tell_unready};
-use errands::{Listening, Network, carry_out, errand_of, tell_reason_there};
+use errands::{HandOn, Listening, Network, carry_out, errand_of, hand_on_there, tell_reason_there};
 use std::io;
-use std::net::SocketAddr;
+use store::{Refusal, Who};
+
+// Hands on the documents that a running server has of a depositor.
+fn hand_on_from<W: io::Write, E: io::Write>(
+    rt: &HostRuntime,
+    server: &Endpoint<'_>,
+    task: &Task<'_>,
+    asked: HandOn<'_>,
+    verbosity: Verbosity,
+    out: &mut W,
+    err: &mut E,
+) -> Result<ExitStatus, CommandError> {
+    if Who::new(asked.who.as_bytes()).is_none() {
+        return tell_unready(rt, task, Refusal::BadText, verbosity, err);
+    }
+    let mut courier = Network::new(rt, *server);
+    hand_on_there(rt, &mut courier, server, asked, out, err)
+}
 
 /// Has a running server do what a line says, and prints what it prints over the book in its file.
 /// Words are tested and files read before the server is asked.
 pub fn run_over_server<W: io::Write, E: io::Write>(
     rt: &HostRuntime,
-    server: &SocketAddr,
+    server: &Endpoint<'_>,
     task: &Task<'_>,
     verbosity: Verbosity,
     out: &mut W,
     err: &mut E,
 ) -> Result<ExitStatus, CommandError> {
+    if let Task::HandOn { who, dir } = task {
+        let asked = HandOn {
+            who: *who,
+            dir: *dir,
+        };
+        return hand_on_from(rt, server, task, asked, verbosity, out, err);
+    }
     match errand_of(rt, task)? {
         Ok(errand) => {
             let (alloc, mut courier) = (rt.alloc(), Listening::new(Network::new(rt, *server)));

@@ -4,11 +4,13 @@
 //! whether these entries still stand there as they stood then.
 #![tactic(auto)]
 
+mod beginning;
 pub mod laws;
 mod noted;
 mod seal;
 mod sealed;
 
-pub use noted::{NotedSeal, entries_in};
+pub use beginning::{Beginning, begins_with, entries_in};
+pub use noted::NotedSeal;
 pub use seal::{SEAL_BYTES, SEAL_DIGITS, Seal};
 pub use sealed::Sealed;

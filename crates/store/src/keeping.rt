@@ -4,6 +4,8 @@ ghost use Rattle.profile.specs.Decision as decided;
 ghost use Rattle.profile.specs.Rows.{stock_of, outbox_of};
 ghost use Rattle.rules.specs.Asked.{mark_of};
 ghost use Rattle.rules.specs.Decided.{IsAtRest, IsRecalled};
+ghost use Rattle.store.specs.Extent as meant;
+ghost use Rattle.store.specs.Extent.{extent_of};
 ghost use Rattle.store.specs.Held.{IsHeld};
 ghost use Rattle.store.specs.Known.{first_under};
 ghost use Rattle.store.specs.Open.{open_of, open_on, enrolled};
@@ -12,7 +14,16 @@ ghost use Rattle.store.specs.Standing.{Standing, IsUsable, IsNext, IsUnchanged, 
 
 use crate::rows::{OutRow, StockRow};
 use profile::Fault;
-use rules::{Change, Entry, Key, Known, Need, Page, Warehouse, Who};
+use rules::{Change, Entry, Key, Known, Moment, Need, Page, Warehouse, Who};
+
+/// How far a register goes.
+#[derive(Clone, Copy)]
+pub struct Extent {
+    /// How many entries it has.
+    pub entries: u64,
+    /// The moment of the last one; None where there is none.
+    pub last: Option<Moment>,
+}
 
 /// A book of a warehouse: the register of what was accepted, and what it comes to. What a book
 /// keeps, and what a crash may leave of it, is told by the ghost member `standing`.
@@ -105,6 +116,12 @@ pub trait Keeper {
     fn depositors(&mut self) -> Result<Vec<Who>, Fault>
         ensures whole { OfKept (standing self.old) (standing self.new)
             (λ L. IfOk result (λ whos. whos.items ≡ enrolled L)) }
+        ensures query { IsQuery (standing self.old) (standing self.new) result };
+
+    /// How far the register goes.
+    fn extent(&mut self) -> Result<Extent, Fault>
+        ensures extent { OfAnyKept (standing self.old) (standing self.new)
+            (λ L. IfOk result (λ extent. meant.extent extent ≡ extent_of L)) }
         ensures query { IsQuery (standing self.old) (standing self.new) result };
 
     /// How many calls the store refused.

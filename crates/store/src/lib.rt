@@ -10,7 +10,7 @@ mod rows;
 mod sending;
 mod serving;
 
-pub use keeping::Keeper;
+pub use keeping::{Extent, Keeper};
 pub use leaving::{memory_is_never_in_doubt, what_is_kept_is_left};
 pub use profile::Fault;
 pub use replaying::ReplayBook;
@@ -20,4 +20,4 @@ pub use rules::{
     KnownLine, KnownOrder, Line, Moment, Need, OutKind, Page, Refusal, Row, Sheet, SheetKind,
     Warehouse, Who, decide, decide_again, need, subject,
 };
-pub use serving::{Outcome, Reply, outbox, run, stock, submit, submit_under, text};
+pub use serving::{Outcome, Reply, outbox, run, stock, submit, submit_under, text, try_out};

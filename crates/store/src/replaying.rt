@@ -11,16 +11,18 @@ ghost use Rattle.profile.specs.Need as meant;
 ghost use Rattle.rules.specs.Decided.{IsAtRest, IsRecalled, IsPageOf};
 ghost use Rattle.rules.specs.Written.{written};
 ghost use Rattle.rules.specs.Pages.{IsAt};
+ghost use Rattle.store.specs.Extent as meant_extent;
+ghost use Rattle.store.specs.Extent.{last_moment};
 ghost use Rattle.store.specs.Held.{IsHeld, IsHeldFor};
 ghost use Rattle.store.specs.Open.{open_of, open_on, enrolled};
 ghost use Rattle.store.specs.Replayed.{all_written, is_under};
 ghost use Rattle.store.specs.Standing.{IsUsable};
 
-use crate::keeping::Keeper;
+use crate::keeping::{Extent, Keeper};
 use crate::rows::{OutRow, StockRow};
 use crate::sending::{content_of, sent_to};
 use profile::Fault;
-use rules::{Change, Entry, Key, Known, Need, Page, Warehouse, Who, replay};
+use rules::{Change, Entry, Key, Known, Moment, Need, Page, Warehouse, Who, replay};
 use std::alloc::{AllocError, Global};
 use std::marker::Model;
 
@@ -204,6 +206,27 @@ fn depositors_of(alloc: Global, entries: &[Entry]) -> Result<Vec<Who>, AllocErro
     Ok(whos)
 }
 
+// The moment of the last of these entries.
+fn last_of(entries: &[Entry]) -> Option<Moment>
+    ensures { (L : List register.Entry) → entries.now ≡ all_written L → result ≡ last_moment L }
+{
+    match entries.last() {
+        Some(entry) => Some(entry.moment()),
+        None => None,
+    }
+}
+
+// How far these entries go.
+fn extent_of(entries: &[Entry]) -> Extent
+    ensures { (L : List register.Entry) → entries.now ≡ all_written L
+        → meant_extent.extent result ≡ meant_extent.extent_of L }
+{
+    Extent {
+        entries: entries.len() as u64,
+        last: last_of(entries),
+    }
+}
+
 impl ReplayBook {
     // The whole page of a depositor; None for a stranger.
     fn page(&self, who: &Who) -> Result<Option<Page>, AllocError>
@@ -280,6 +303,10 @@ impl Keeper for ReplayBook {
 
     fn depositors(&mut self) -> Result<Vec<Who>, Fault> {
         Ok(depositors_of(self.alloc, &self.entries)?)
+    }
+
+    fn extent(&mut self) -> Result<Extent, Fault> {
+        Ok(extent_of(&self.entries))
     }
 
     fn refused(&self) -> u64 {

@@ -188,6 +188,29 @@ pub fn submit<K: Keeper>(
     submit_under(alloc, keeper, command, moment, Rules::Two)
 }
 
+/// What would be answered to a command now, under the rules of the day. Nothing is committed: the
+/// book is as before, whatever is answered.
+pub fn try_out<K: Keeper>(
+    alloc: Global,
+    keeper: &mut K,
+    command: &Command<'_>,
+    moment: Moment,
+) -> Result<Reply, Fault>
+    ensures reply { OfKept (K.standing keeper.old) (K.standing keeper.new)
+        (λ L. IfOk result (λ reply. told reply ≡ reply_to Two (K.standing keeper.old).warehouse L
+        (asked command.now) moment)) }
+    ensures query { IsQuery (K.standing keeper.old) (K.standing keeper.new) result }
+{
+    if keeper.must_reopen() {
+        return Err(Fault::Reopen);
+    }
+    match judge(alloc, keeper, command, moment, Rules::Two)? {
+        Decision::Stored(text) => Ok(Reply::Stored(text)),
+        Decision::Refused(refusal, answer) => Ok(Reply::Refused { refusal, answer }),
+        Decision::Accepted { outgoing, .. } => Ok(Reply::Accepted(outgoing)),
+    }
+}
+
 /// What a depositor has, by item and lot; None for a stranger. The book is as before.
 pub fn stock<K: Keeper>(keeper: &mut K, who: Who) -> Result<Option<Vec<StockRow>>, Fault>
     ensures rows { OfKept (K.standing keeper.old) (K.standing keeper.new)

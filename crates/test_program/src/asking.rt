@@ -7,7 +7,7 @@ use crate::telling::{hold, tell};
 use crate::texts::text_of;
 use cases::clerks::response_of;
 use cases::sections::section_of;
-use command_line::ClerkWords;
+use command_line::{ClerkWords, Endpoint};
 use commands::{CommandError, ExitStatus};
 use errands::remote::{Request, ServerAnswer, Unanswered, Verb, read_answer};
 use errands::{Courier, Errand, Listening, carry_out, tell_reason_there};
@@ -53,7 +53,7 @@ fn explain<C: Courier + Drop>(
     out: &mut Vec<u8>,
     err: &mut Vec<u8>,
 ) -> Result<ExitStatus, Fail> {
-    let server = "127.0.0.1:1".parse()?;
+    let server = Endpoint::Inet("127.0.0.1:1".parse()?);
     let errand = Errand::Deed(RECOUNT, b"BOLT,L1,4\n".to_vec(alloc)?);
     let mut courier = Listening::new(courier);
     match carry_out(alloc, &mut courier, &server, &errand, out, err) {

@@ -4,7 +4,7 @@
 //! quantity (b.x12), its beginning, which can't be read (c.x12), the advice as a stranger would
 //! send it (c1.x12), and another advice of as many (c2.x12). The answers there are the last ones:
 //! the note of a duplicate, which isn't kept (b.x12.ans), and the stranger's (c1.x12.ans).
-use crate::ran::{Wanted, run_lines, run_text};
+use crate::ran::{Wanted, do_lines, run_lines, run_text};
 use crate::telling::{hold, tell};
 use crate::texts::{answer, has_text, remove, remove_book, text_of, write_advice};
 use cases::spreading::spread;
@@ -212,6 +212,129 @@ fn a_large_folder_is_taken_whole(rt: &HostRuntime) -> Result<(), Fail> {
     run_text(rt, script)?.compare("a large folder", &taken(&printed))
 }
 
+// What is told of a folder in which a link stays, on standard error.
+const STAYS: &str = "e.x12 stays: it is a symbolic link\n";
+
+const AWAY: Wanted<'static> = Wanted {
+    printed: "\
+a.x12 accepted
+b.x12 refused 025
+c.x12 unreadable
+c1.x12 refused 006
+c2.x12 accepted
+",
+    told: STAYS,
+    status: 1,
+};
+
+// The next run has nothing to take, and says again what stays.
+const NOTHING: Wanted<'static> = Wanted {
+    printed: "",
+    told: STAYS,
+    status: 1,
+};
+
+const TAKE_AWAY: &str = "take inbox --done taken --at 2025-03-04T09:15";
+
+// Makes the book, the folder and the one below which it is taken, anew.
+fn begin_away(rt: &HostRuntime) -> Result<(), Fail> {
+    fill(rt)?;
+    symlink(rt, "../kept.txt", "inbox/e.x12")?;
+    if fs::exists(rt, "taken")? {
+        fs::remove_dir_all(rt, "taken")?;
+    }
+    fs::create_dir(rt, "taken")?;
+    remove_book(rt, "case.book", "case.book-wal")?;
+    let begun = "init ZZ-WHSE1\nenrol ZZ-ACME --at 2025-03-04T09:15";
+    run_lines(rt, "case.book", begun)?.compare("begun", &BEGUN)
+}
+
+const BEGUN: Wanted<'static> = Wanted {
+    printed: "",
+    told: "",
+    status: 0,
+};
+
+// Whether what was taken is in the folder of the run, with its answers, and the inbox has it no
+// more.
+fn is_away(rt: &HostRuntime, run: &str) -> Result<bool, Fail> {
+    for name in [
+        "a.x12",
+        "a.x12.ans",
+        "b.x12.ans",
+        "c2.x12",
+        "unreadable/c.x12",
+    ] {
+        if !fs::exists(rt, &["taken/", run, "/", name].concat(rt.alloc())?)? {
+            return Ok(false);
+        }
+    }
+    Ok(!fs::exists(rt, "inbox/a.x12")? && fs::exists(rt, "inbox/d.txt")?)
+}
+
+// What was taken is moved to a folder of the run, with its answers; what an earlier run left in the
+// folder `taking` is taken first, under its own name.
+fn what_was_taken_is_moved(rt: &HostRuntime) -> Result<(), Fail> {
+    begin_away(rt)?;
+    fs::create_dir(rt, "taken/taking")?;
+    fs::rename(rt, "inbox/a.x12", "taken/taking/a.x12")?;
+    run_lines(rt, "case.book", TAKE_AWAY)?.compare("moved", &AWAY)?;
+    hold(
+        is_away(rt, "2025-03-04T0915")?,
+        "it is in the folder of the run",
+    )?;
+    run_lines(rt, "case.book", TAKE_AWAY)?.compare("nothing", &NOTHING)?;
+    write_advice(rt, "inbox/a.x12")?;
+    run_lines(rt, "case.book", TAKE_AWAY)?.compare("again", &STORED)?;
+    hold(
+        fs::exists(rt, "taken/2025-03-04T0915-2/a.x12.ans")?,
+        "another run has another folder",
+    )
+}
+
+const STORED: Wanted<'static> = Wanted {
+    printed: "a.x12 stored\n",
+    told: STAYS,
+    status: 1,
+};
+
+const DOCUMENT: Wanted<'static> = Wanted {
+    printed: "2.x12 written\n",
+    told: "",
+    status: 0,
+};
+
+const OTHER: Wanted<'static> = Wanted {
+    printed: "",
+    told: "out/2.x12 has other bytes, and stays as it is\n",
+    status: 1,
+};
+
+const HAND_ON: &str = "outbox ZZ-ACME --into out";
+
+// A document is written once, to a file of its own; one that was sent isn't written again, and
+// another file in its place stays.
+fn documents_are_handed_on(rt: &HostRuntime) -> Result<(), Fail> {
+    begin_away(rt)?;
+    fs::write(rt, "count.csv", "BOLT,L1,90\n")?;
+    write_advice(rt, "advice.x12")?;
+    if fs::exists(rt, "out")? {
+        fs::remove_dir_all(rt, "out")?;
+    }
+    fs::create_dir(rt, "out")?;
+    let lines =
+        "send advice.x12 --at 2025-03-04T09:15\ncount ZZ-ACME T1 SHP1 count.csv --at 2025-03-04T09:15";
+    do_lines(rt, "case.book", lines)?;
+    run_lines(rt, "case.book", HAND_ON)?.compare("written", &DOCUMENT)?;
+    run_lines(rt, "case.book", HAND_ON)?.compare("there", &BEGUN)?;
+    fs::rename(rt, "out/2.x12", "out/2.x12.sent")?;
+    run_lines(rt, "case.book", HAND_ON)?.compare("sent", &BEGUN)?;
+    fs::remove_file(rt, "out/2.x12.sent")?;
+    fs::write(rt, "out/2.x12", "")?;
+    run_lines(rt, "case.book", HAND_ON)?.compare("another", &OTHER)?;
+    hold(!fs::exists(rt, "out/1.x12")?, "an answer isn't handed on")
+}
+
 /// Plays them.
 pub(crate) fn all(rt: &HostRuntime) -> Result<(), Fail> {
     tell(
@@ -230,6 +353,8 @@ pub(crate) fn all(rt: &HostRuntime) -> Result<(), Fail> {
         "an interchange with too long a name is told",
         an_interchange_with_too_long_a_name_is_told(rt),
     )?;
+    tell(rt, "what was taken is moved", what_was_taken_is_moved(rt))?;
+    tell(rt, "documents are handed on", documents_are_handed_on(rt))?;
     tell(
         rt,
         "a large folder is taken whole",

@@ -1,6 +1,7 @@
 //! Two connections served, and what is told of them.
+use command_line::Endpoint;
 use commands::{Service, Verbosity, crowd_of, serve_on};
-use intake::{Caller, Callers};
+use intake::{Caller, Callers, Listener};
 use peers::Arrival;
 use std::io;
 use std::net::TcpListener;
@@ -52,7 +53,7 @@ pub(crate) fn told_of<L: Callers, K: Keeper>(
 // A service at a listener's address, of two connections.
 pub(crate) fn service_at(listener: &TcpListener, clerks: bool) -> io::Result<Service<'static>> {
     Ok(Service {
-        address: listener.local_addr()?,
+        endpoint: Endpoint::Inet(listener.local_addr()?),
         count: Some(2),
         patience: None,
         peers: None,
@@ -72,7 +73,7 @@ pub(crate) fn served<K: Keeper>(
     clerks: bool,
 ) -> Result<Told, Fail> {
     let service = service_at(listener, clerks)?;
-    let mut crowd = crowd_of(rt, listener.try_clone()?, &service)?;
+    let mut crowd = crowd_of(rt, Listener::Tcp(listener.try_clone()?), &service)?;
     let told = told_of(rt, &mut crowd, &service, book, moment, has_clock)?;
     if crowd.finish() == 0 {
         Ok(told)
@@ -95,6 +96,8 @@ impl Callers for Nobody {
     fn millis_of(&self, _arrival: &Arrival) -> u64 {
         0
     }
+
+    fn admit_one_more(&mut self) {}
 
     fn take_lost(&mut self) -> u32 {
         0

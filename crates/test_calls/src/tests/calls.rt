@@ -3,6 +3,7 @@
 mod breaking;
 mod browsers;
 mod exchanges;
+mod health;
 mod proxies;
 mod taking;
 pub(crate) mod worked;

@@ -4,8 +4,8 @@ use Rattle.sqlite.specs.Held.{state}
 use Rattle.store.specs.Fault.{Fault}
 use Rattle.book_tables.proofs.AskedLater.{clean_before, stands_later}
 use Rattle.book_tables.proofs.Queries.{went_as, went_fails, went_on}
-use Rattle.seals.specs.Noted.{digest_in}
-use Rattle.books.proofs.SealingLemmas.{IsSealed, first_sealed, never_some, next_sealed, none_more}
+use Rattle.seals.specs.Noted.{noted, noted_in}
+use Rattle.books.proofs.SealingLemmas.{IsNoted, first_noted, never_some, next_noted, none_more}
 use Rattle.books.proofs.sealing.seal_first.Goals as goal
 
 pub returns-in_err-next-clause-went : goal.returns-in_err-next-clause-went
@@ -28,8 +28,8 @@ returns-in_default-clause-seal g c = λ clean W L stands.
     let its = c.in_ok-next.ensures in
     let before = clean_before mid new its.went.left clean in
     let told = its.next clean W L (stands_later old mid W L before was.went.left stands) in
-    none_more L c.loop-before.before c.args.count c.loop-before.seal.digest c.loop-before-test.true
-    (sym (ap digest_in (never_some c.in_ok-next.field-0 c.in_default.not-Some)) ∙ told)
+    none_more L c.loop-before.before c.args.count (noted c.loop-before.seal) c.loop-before-test.true (was.noted before W L stands)
+    (sym (ap noted_in (never_some c.in_ok-next.field-0 c.in_default.not-Some)) ∙ told)
 
 pub loop-before-preserved : goal.loop-before-preserved
 loop-before-preserved g c =
@@ -39,11 +39,11 @@ loop-before-preserved g c =
     let new = state g.S.Store c.seal_next.new.tables.conn in
     let its = c.in_ok-next.ensures in
     record {
-      sealed = λ clean W L stands.
+      noted = λ clean W L stands.
           let before = clean_before mid new its.went.left clean in
           let told = its.next clean W L (stands_later old mid W L before was.went.left stands) in
-          next_sealed L c.loop-before.before c.loop-before.seal.digest c.in-Some.next.digest (was.sealed before W L stands)
-          (sym (ap digest_in c.in-Some.is) ∙ told);
+          next_noted L c.loop-before.before (noted c.loop-before.seal) (noted c.in-Some.next) (was.noted before W L stands)
+          (sym (ap noted_in c.in-Some.is) ∙ told);
       went = went_on g.S.Store c.args.tables.now c.loop-before.tables c.seal_next.new.tables tt _ was.went
           (went_as g.S.Store c.loop-before.tables c.seal_next.new.tables c.in_ok-next.field-0 tt its.went);
     }
@@ -51,5 +51,5 @@ loop-before-preserved g c =
 pub returns-clause-seal : goal.returns-clause-seal
 returns-clause-seal g c = λ clean W L stands.
     let all : c.loop-before.before ≡ c.args.count = search rules in
-    first_sealed L c.args.count c.loop-before.seal.digest
-    (subst (λ n. IsSealed n c.loop-before.seal.digest L) all (c.loop-before.invariant.sealed clean W L stands))
+    first_noted L c.args.count (noted c.loop-before.seal)
+    (subst (λ n. IsNoted n (noted c.loop-before.seal) L) all (c.loop-before.invariant.noted clean W L stands))

@@ -26,7 +26,8 @@ returns-in_err-given-in-orders-2-clause-err c =
     let same : IsErrAnd c.from_residual-in_err-given-in-orders-2.result (λ g. g ≡ c.in_err-given-in-orders-2.field-0.0) = search rules in
     handed c.from_residual-in_err-given-in-orders-2.result c.in_err-given-in-orders-2.field-0.0 same c.in_err-given-in-orders-2.ensures.err (λ all. (subst (λ (n : Text). HasAll (n, rows_of (found_of c.args.values.now))) c.in-orders.is all.0).1.0 refl)
 
-pub returns-in_err-given-in-outbox-clause-err : goal.returns-in_err-given-in-outbox-clause-err
-returns-in_err-given-in-outbox-clause-err c =
-    let same : IsErrAnd c.from_residual-in_err-given-in-outbox.result (λ g. g ≡ c.in_err-given-in-outbox.field-0.0) = search rules in
-    handed c.from_residual-in_err-given-in-outbox.result c.in_err-given-in-outbox.field-0.0 same c.in_err-given-in-outbox.ensures.err (λ all. (subst (λ (n : Text). HasAll (n, rows_of (found_of c.args.values.now))) c.in-outbox.is all.0).0 refl)
+pub returns-in_err-show-in-outbox-clause-err : goal.returns-in_err-show-in-outbox-clause-err
+returns-in_err-show-in-outbox-clause-err c =
+    let same : IsErrAnd c.from_residual-in_err-show-in-outbox.result (λ g. g ≡ c.in_err-show-in-outbox.field-0.0) = search rules in
+    handed c.from_residual-in_err-show-in-outbox.result c.in_err-show-in-outbox.field-0.0 same c.in_err-show-in-outbox.ensures.err
+    (λ all. let has = subst (λ (n : Text). HasAll (n, rows_of (found_of c.args.values.now))) c.in-outbox.is all.0 in let rest = all.1 c.in-outbox.is in (has, rest.0, rest.1))

@@ -1,4 +1,4 @@
 use Rattle.command_line.proofs.subcommands.verify.Goals as goal
 
 pub returns : goal.returns
-returns c = c.subcommand.ensures _ c.at.ensures
+returns c = c.with_at.ensures _ (c.subcommand-command.ensures _ c.option.ensures)

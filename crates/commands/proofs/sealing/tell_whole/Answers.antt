@@ -1,4 +1,5 @@
-use Rattle.std.proofs.Common.{ap, rules, IfErr, ◌∙◌, List, ℕ, None}
+use Rattle.std.proofs.Common.{ap, rules, IfErr, ◌∙◌, List, ℕ, None, Option}
+use Rattle.profile.specs.Moments.{Moment}
 use Rattle.seals.specs.Noted.{noted, noted_line}
 use Rattle.commands.specs.Shown.{Shown, shown_seal}
 use Rattle.commands.specs.Stops.{IsDeviceStop}
@@ -7,7 +8,7 @@ use Rattle.commands.proofs.ShownLaws.{unshown_text}
 use Rattle.commands.proofs.sealing.tell_whole.Goals as goal
 
 -- what is printed of what is noted
-abbrev line_of : ℕ × List ℕ → Shown
+abbrev line_of : ℕ × List ℕ × Option Moment → Shown
 line_of n = (noted_line n, Done)
 
 pub returns-in_err-print : goal.returns-in_err-print

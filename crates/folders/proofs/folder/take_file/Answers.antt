@@ -4,7 +4,7 @@ use Rattle.store.specs.Runs.{told}
 use Rattle.folders.specs.Folders.{became_of}
 use Rattle.folders.specs.Handed.{text_of, IsText, IsUntaken}
 use Rattle.folders.specs.Paths.{answer_path, file_path}
-use Rattle.folders.proofs.Taking.{unread, unsubmitted, unanswered, file_taken, handed_on}
+use Rattle.folders.proofs.Taking.{unread, unsubmitted, unanswered, finish_taken, handed_on}
 use Rattle.folders.proofs.folder.take_file.Goals as goal
 
 pub returns-in_err-reserve-clause-stopped : goal.returns-in_err-reserve-clause-stopped
@@ -71,6 +71,6 @@ returns-clause-taken g c =
       };
       replied = λ clean L u. c.in_ok-reply.ensures.reply clean L u.keeps u.legal;
       told_is = c.outcome_of-outcome.ensures.told;
-      taken = file_taken (g.K.Keeper.standing c.args.keeper.now) (g.K.Keeper.standing c.submit.new.keeper) c.args.moment c.deref-2.result.now _ (became_of c.outcome_of-outcome.result.0) c.outcome_of-outcome.ensures.told
+      taken = finish_taken (g.K.Keeper.standing c.args.keeper.now) (g.K.Keeper.standing c.submit.new.keeper) c.args.moment c.deref-2.result.now _ (became_of c.outcome_of-outcome.result.0) c.outcome_of-outcome.ensures.told
           (λ clean L u. c.in_ok-reply.ensures.reply clean L u.keeps u.legal) (λ clean L u. c.in_ok-reply.ensures.ok clean L u refl) (λ clean L k legal. c.in_ok-reply.ensures.keeps clean L k legal refl);
     }

@@ -1,4 +1,4 @@
-use Rattle.std.proofs.Common.{inr, refl, ◌≡◌, ◌≤◌, sym, subst, arith, IsTrue}
+use Rattle.std.proofs.Common.{inr, ◌≡◌, ◌≤◌, sym, subst, arith, rules, IsErrAnd, IsTrue}
 use Rattle.sqlite_trees.specs.View.{doubt}
 use Rattle.sqlite.specs.Effect.{Database}
 use Rattle.sqlite.specs.Held.{state}
@@ -7,7 +7,8 @@ use Rattle.book_tables.specs.Comparing.{AreTables, IsLaid}
 use Rattle.book_statements.specs.Layout.{IsLayout}
 use Rattle.running.specs.Checking.{IsWholeNow, StaysCommitted, TellsWhole}
 use Rattle.books.specs.Opened.{standing_of}
-use Rattle.running.proofs.CheckingLemmas.{said_of, still_committed, whole_now}
+use Rattle.commands.specs.declared.told.CommandError.{CommandError}
+use Rattle.running.proofs.CheckingLemmas.{left_any, other_begins, same_stop, still_committed, whole_now}
 use Rattle.running.proofs.checking.check_over.Goals as goal
 
 pub returns-in-Ok : goal.returns-in-Ok
@@ -85,7 +86,11 @@ returns-in-Err-clause-left g c =
           let was : HasCleanDisk (state v c.in_ok-book.book.tables.conn) = omega (arith, goes.doubt, clean) in
           let book = c.in_ok-book.ensures.stood was q W L stands in
           let usable = book.usable in
-          let why = said_of (standing_of v c.in_ok-book.book) (standing_of v c.check.new.book) c.in-Err.stop c.in-Err.ensures.stopped is in
-          absurd (why.not_this refl clean L usable.keeps);
+          inr (other_begins c.args.noted.now (standing_of v c.in_ok-book.book) (standing_of v c.check.new.book) c.in-Err.stop c.in-Err.ensures.stopped is clean L usable.keeps);
       no_more = λ clean second db may. stays.no_more clean second db may;
     }
+
+pub returns-in_err-book-clause-left : goal.returns-in_err-book-clause-left
+returns-in_err-book-clause-left g c =
+    let same : IsErrAnd c.from_residual.result (λ (stop : CommandError). stop ≡ c.in_err-book.field-0.0) = search rules in
+    same_stop c.from_residual.result c.in_err-book.field-0.0 _ same (left_any g.S.Store c.args.database c.args.noted.now c.in_err-book.field-0.0 c.in_err-book.ensures.left)

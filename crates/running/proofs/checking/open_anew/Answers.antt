@@ -1,4 +1,4 @@
-use Rattle.std.proofs.Common.{◌≤◌, ap, sym, subst, ◌∙◌, arith}
+use Rattle.std.proofs.Common.{◌≤◌, ap, sym, subst, ◌∙◌, arith, inl}
 use Rattle.sqlite.specs.Held.{Held, state}
 use Rattle.sqlite.specs.State.{HasCleanDisk}
 use Rattle.sqlite.specs.Effect.{Database}
@@ -24,7 +24,7 @@ returns-in-Err-clause-left g c =
           let fails = subst (λ (h : Held g.row.S.Denot). FailsToReopen (state v h) (MoreFaults (state v h).faults (v.faults store)) c.in-Err.error) c.new.ensures.conn (c.in-Err.ensures.err clean) in
           let more : MoreFaults (state v database).faults (v.faults store) =
           unread (state v database) (MoreFaults (state v database).faults (v.faults store)) c.in-Err.error fails (sym c.fault.ensures.told ∙ some_is c.fault.result NotThisBook is) (λ _. (stands.0, stands.1)) in
-          omega (arith, more);
+          inl (omega (arith, more));
       no_more = λ clean second db may. subst (λ (h : Held g.row.S.Denot). (state v h).may_leave db) c.new.ensures.conn (quiet.outcomes db may);
     }
 
@@ -161,7 +161,7 @@ returns-in-Err-NotThisBook-default-clause-left g c = err_as c.carried.result (λ
           let back_clean : HasCleanDisk back = omega (arith, it.clean, clean) in
           let fresh : HasCleanDisk t = omega (arith, grew, back_clean) in
           let same = c.in-Ok.ensures.trees fresh ∙ ap (λ k. (state v k).committed.trees) c.new.ensures.conn in
-          it.not_this clean is q W L (stands_open_later q t back W L back_clean asked (stood_anew (state v database) t q W L (c.in-Ok.ensures.opens fresh) same stands));
+          inl (it.not_this clean is q W L (stands_open_later q t back W L back_clean asked (stood_anew (state v database) t q W L (c.in-Ok.ensures.opens fresh) same stands)));
       no_more = λ clean second db may.
           let back_clean : HasCleanDisk back = omega (arith, it.clean, clean) in
           let fresh : HasCleanDisk t = omega (arith, grew, back_clean) in

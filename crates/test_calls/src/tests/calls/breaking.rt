@@ -8,8 +8,8 @@ use super::worked::{
 use std::alloc::Global;
 use std::test::Fail;
 use store::{
-    Change, Command, Entry, Fault, Keeper, Key, Known, Moment, Need, OutRow, Page, ReplayBook,
-    Reply, SheetKind, StockRow, Warehouse, Who, outbox, run, stock, submit,
+    Change, Command, Entry, Extent, Fault, Keeper, Key, Known, Moment, Need, OutRow, Page,
+    ReplayBook, Reply, SheetKind, StockRow, Warehouse, Who, outbox, run, stock, submit,
 };
 
 // A 997 from the depositor that accepts the 944 under number 2, under control number 2.
@@ -118,6 +118,13 @@ impl Keeper for BreakingBook {
             return Err(Fault::Reopen);
         }
         self.book.depositors()
+    }
+
+    fn extent(&mut self) -> Result<Extent, Fault> {
+        if self.shut {
+            return Err(Fault::Reopen);
+        }
+        self.book.extent()
     }
 
     fn refused(&self) -> u64 {

@@ -64,6 +64,7 @@ const WITH_DOORS: Access<'static> = Access {
         names: Some("edi.example,dock.example"),
     }),
     from: None,
+    tells_health: false,
 };
 
 // Fails where the advice, posted with these lines in its head, is answered otherwise.

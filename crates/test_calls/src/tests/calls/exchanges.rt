@@ -247,6 +247,7 @@ const OF_CLERKS: Access<'static> = Access {
     audience: Audience::Clerks,
     doors: None,
     from: None,
+    tells_health: false,
 };
 
 // Fails at the first case of a text that is answered otherwise.

@@ -11,6 +11,7 @@ const BEHIND: Access<'static> = Access {
     audience: Audience::Clerks,
     doors: None,
     from: Some("X-Depositor"),
+    tells_health: false,
 };
 
 const NOT_FOUND: &str =

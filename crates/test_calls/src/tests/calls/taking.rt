@@ -1,7 +1,8 @@
 //! A folder that is taken, of which each call fails in turn, and one of more than a thousand files.
 use super::worked::{ADVICE, ANSWER, acme, empty, enrols, failed, morning};
 use folders::{
-    FileOutcome, FileSystem, FolderEntry, FolderStop, TakenFolder, WhyPassed, take_folder_telling,
+    EntryKind, FileOutcome, FileSystem, FolderEntry, FolderStop, TakenFolder, WhyPassed,
+    take_folder_telling,
 };
 use std::alloc::{Alloc, Global};
 use std::cell::Cell;
@@ -119,6 +120,33 @@ impl FileSystem for Drawer {
             self.has_old.set(false);
         }
         Ok(())
+    }
+
+    // Each of its files is in the one folder `in`, or was moved.
+    fn kind_of(&self, path: &str) -> io::Result<EntryKind> {
+        self.try_path(path)?;
+        if path.starts_with("in/") {
+            Ok(EntryKind::File)
+        } else {
+            Ok(EntryKind::NoEntry)
+        }
+    }
+
+    fn rename(&self, from: &str, _to: &str) -> io::Result<()> {
+        self.try_path(from)
+    }
+
+    fn make_folder(&self, path: &str) -> io::Result<()> {
+        self.try_path(path)
+    }
+
+    fn sync_folder(&self, path: &str) -> io::Result<()> {
+        self.try_path(path)
+    }
+
+    // Documents aren't its own.
+    fn create(&self, _made: &str, _path: &str, _bytes: &[u8]) -> io::Result<()> {
+        Err(io::Error::from(ErrorKind::Unsupported))
     }
 }
 

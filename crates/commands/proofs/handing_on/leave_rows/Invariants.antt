@@ -1,0 +1,8 @@
+use Rattle.std.proofs.Common.{take}
+use Rattle.commands.specs.HandingOn.{AreLeft}
+use Rattle.commands.proofs.handing_on.leave_rows.Given as goal
+
+abbrev pub invariant-loop-row : goal.invariant-loop-row
+invariant-loop-row g l =
+    let finds = g.R.FileSystem.finds l.rt in
+    AreLeft finds (g.R.FileSystem.reads l.rt) (g.R.FileSystem.writes l.rt) l.dir (take l.row-index l.rows)

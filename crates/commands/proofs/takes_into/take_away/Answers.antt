@@ -1,0 +1,49 @@
+use Rattle.std.proofs.Common.{List, flat_map, rules, inl, inr, sym, subst}
+use Rattle.folders.proofs.Taking.{handed_on}
+use Rattle.folders.specs.Folders.{IsFolderStopped}
+use Rattle.folders.specs.declared.folder.Taken.{Taken}
+use Rattle.commands.specs.Printing.{AppendsFront}
+use Rattle.commands.specs.Takes.{line_in}
+use Rattle.commands.specs.Stops.{IsDeviceStop, IsFaultThat}
+use Rattle.commands.specs.declared.told.CommandError.{CommandError}
+use Rattle.commands.proofs.TakesLaws.{not_begun}
+use Rattle.commands.proofs.TellingLaws.{appends_nothing}
+use Rattle.commands.proofs.takes_into.take_away.Goals as goal
+
+pub returns-in-Ok-clause-taken : goal.returns-in-Ok-clause-taken
+returns-in-Ok-clause-taken g c = record {
+  texts = c.in-Ok.ensures.taken.0;
+  into = c.in-Ok.into;
+  taken = c.in-Ok.ensures.taken.1;
+  printed = search rules;
+  says = search rules;
+}
+
+pub returns-in_err-room-clause-halted : goal.returns-in_err-room-clause-halted
+returns-in_err-room-clause-halted g c =
+    let at = g.K.Keeper.standing c.args.book.now in
+    handed_on c.from_residual.result _ _ c.from_residual.ensures
+    (λ stop is. inl (subst (λ (s : CommandError). IsFaultThat s (λ fault. IsFolderStopped fault at at c.args.moment)) (sym is) (not_begun at c.args.moment), appends_nothing (g.W.Write.contents c.args.out.now)))
+
+pub returns-in_err-run-clause-halted : goal.returns-in_err-run-clause-halted
+returns-in_err-run-clause-halted g c =
+    let at = g.K.Keeper.standing c.args.book.now in
+    handed_on c.from_residual-in_err-run.result _ _ c.from_residual-in_err-run.ensures
+    (λ stop is. inl (subst (λ (s : CommandError). IsFaultThat s (λ fault. IsFolderStopped fault at at c.args.moment)) (sym is) (not_begun at c.args.moment), appends_nothing (g.W.Write.contents c.args.out.now)))
+
+pub returns-in_err-status-in-Ok-clause-halted : goal.returns-in_err-status-in-Ok-clause-halted
+returns-in_err-status-in-Ok-clause-halted g c =
+    let before = g.W.Write.contents c.args.out.now in
+    let later = g.W.Write.contents c.tell_taken.new.out in
+    let e = c.in_err-status-in-Ok.ensures in
+    handed_on c.from_residual-in_err-status-in-Ok.result _ _ c.from_residual-in_err-status-in-Ok.ensures
+    (λ stop is. inr (record {
+      texts = c.in-Ok.ensures.taken.0;
+      files = c.in-Ok.into.taken.files.items;
+      taken = c.in-Ok.ensures.taken.1;
+      printed = subst (λ (files : List Taken). AppendsFront before later (flat_map line_in files)) c.deref.ensures.value e.front;
+      why = subst IsDeviceStop (sym is) e.halted;
+    }))
+
+pub returns-clause-halted : goal.returns-clause-halted
+returns-clause-halted g c = inl (search rules, appends_nothing (g.W.Write.contents c.args.out.now))

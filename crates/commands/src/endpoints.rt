@@ -1,0 +1,69 @@
+//! Where a server listens.
+use command_line::Endpoint;
+use intake::Listener;
+use std::fs::{self, Permissions};
+use std::io;
+use std::net::TcpListener;
+use std::os::unix::fs::{FileTypeExt, PermissionsExt};
+use std::os::unix::net::{UnixListener, UnixStream};
+
+// Its owner and its group may call, and nobody else. The group is the one that its folder gives.
+const SOCKET_MODE: u32 = 0o660;
+
+// Whether a socket lies at a path at which nobody listens any more.
+fn is_left(rt: &HostRuntime, path: &str) -> io::Result<bool> {
+    match fs::symlink_metadata(rt, path) {
+        Ok(found) if found.file_type().is_socket() => match UnixStream::connect(rt, path) {
+            Ok(_) => Ok(false),
+            Err(error) => Ok(error.kind() == io::ErrorKind::ConnectionRefused),
+        },
+        Ok(_) => Ok(false),
+        Err(error) if error.kind() == io::ErrorKind::NotFound => Ok(false),
+        Err(error) => Err(error),
+    }
+}
+
+// A socket of the file system. One that an earlier server left, as where it was killed, is removed;
+// where anything else lies at the path, or another server listens there, the error says so.
+fn listen_at(rt: &HostRuntime, path: &str) -> io::Result<UnixListener> {
+    if is_left(rt, path)? {
+        fs::remove_file(rt, path)?;
+    }
+    let listener = UnixListener::bind(rt, path)?;
+    fs::set_permissions(rt, path, Permissions::from_mode(SOCKET_MODE))?;
+    Ok(listener)
+}
+
+/// Listens at an endpoint. A socket in the file system gets the mode 0660. The error is the
+/// system's, also where something lies at the path that no earlier server left.
+pub(crate) fn listen(rt: &HostRuntime, endpoint: &Endpoint<'_>) -> io::Result<Listener> {
+    match endpoint {
+        Endpoint::Inet(address) => Ok(Listener::Tcp(TcpListener::bind(rt, *address)?)),
+        Endpoint::Unix(path) => Ok(Listener::Unix(listen_at(rt, *path)?)),
+    }
+}
+
+/// Removes the socket of an endpoint that is listened at no more. What can't be removed is left:
+/// the next server removes it.
+pub(crate) fn remove_socket(rt: &HostRuntime, endpoint: &Endpoint<'_>) {
+    if let Endpoint::Unix(path) = endpoint {
+        let _ = fs::remove_file(rt, *path);
+    }
+}
+
+/// Says where a server listens, also where the line left the port to the system. What can't be said
+/// is left out: it is no part of what is served.
+pub(crate) fn tell_endpoint<E: io::Write>(
+    err: &mut E,
+    listener: &Listener,
+    endpoint: &Endpoint<'_>,
+) {
+    let _ = match (listener, endpoint) {
+        (Listener::Tcp(listener), _) => match listener.local_addr() {
+            Ok(address) => write!(err, "listening at {address}\n"),
+            Err(error) => Err(error),
+        },
+        (Listener::Unix(_), Endpoint::Unix(path)) => write!(err, "listening at unix:{path}\n"),
+        (Listener::Unix(_), Endpoint::Inet(_)) => Ok(()),
+    };
+}
