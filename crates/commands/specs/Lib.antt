@@ -12,6 +12,7 @@ pub mod Looking
 pub mod Refused
 pub mod Takes
 pub mod TakesInto
+pub mod TakenFiles
 pub mod Enrolling
 pub mod Clock
 pub mod Serving

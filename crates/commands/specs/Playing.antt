@@ -1,5 +1,5 @@
 -- What a script or a batch comes to: its rows, one after another.
-use Rattle.std.specs.Prelude.{◌≡◌, ◌⊎◌, ◌++◌, ◌∷◌, [], ℕ, Bool, true, false, List, Option, Some, None, Ok, Err, filter}
+use Rattle.std.specs.Prelude.{◌≡◌, ◌⊎◌, ◌++◌, ◌∷◌, [], ℕ, Bool, true, false, List, Option, Some, None, Ok, Err, OnErr, filter}
 use Rattle.std.specs.Borrow.{Bor}
 use Rattle.std.specs.List.{FoldsTo}
 use Rattle.std.specs.Io.KnownBytes.{Appends}
@@ -35,7 +35,8 @@ abbrev pub IsRowRead : List ℕ → Words → Type 0
 IsRowRead row asked = IsLineRead Script (parts_at 32 row) asked
 
 -- A row was answered: its words were read, what they ask for was done with this ending, which left
--- the book so, and telling why it was refused changed nothing. No count falls meanwhile.
+-- the book so, and telling why it was refused changed nothing; after a stop nothing more was asked.
+-- No count falls meanwhile.
 pub record IsRowAnswered
     {K : Type 0} (standing : K → Standing) (old new : K) (row : List ℕ)
     (before later : Option (List ℕ)) (ending : Ending) : Type 0 where
@@ -45,6 +46,7 @@ pub record IsRowAnswered
   pub done : IsLineDone (standing old) (standing left) asked before later ending
   pub goes : GoesOn (standing old) (standing left)
   pub same : IsUnchanged (standing left) (standing new)
+  pub last : OnErr ending (new ≡ left)
 
 -- A row was done, or refused: of a book, what was printed and the status so far the row makes those
 -- after it.

@@ -35,6 +35,12 @@ fn said_of(shown: DateTime, last: DateTime) -> Option<&'static str> {
     None
 }
 
+// Tells a time as moments are told, to the minute.
+fn tell_time<E: io::Write>(err: &mut E, before: &str, time: DateTime) -> io::Result<()> {
+    let (date, hour, minute) = (time.date(), time.hour(), time.minute());
+    write!(err, "{before}{date}T{hour:02}:{minute:02}")
+}
+
 /// Tells of a clock, where there is one, that shows a moment before that of the last entry, or a
 /// day or more after it. What can't be found out or told is left out.
 pub(crate) fn tell_clock<K: Keeper, E: io::Write>(
@@ -58,9 +64,9 @@ pub(crate) fn tell_clock<K: Keeper, E: io::Write>(
         return;
     };
     if let Some(said) = said_of(shown, last) {
-        let _ = write!(
-            err,
-            "the clock shows {shown}, {said} the last entry's {last}\n"
-        );
+        let _ = tell_time(err, "the clock shows ", shown);
+        let _ = write!(err, ", {said} the last entry's ");
+        let _ = tell_time(err, "", last);
+        let _ = err.write_all(b"\n");
     }
 }

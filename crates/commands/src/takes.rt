@@ -1,11 +1,14 @@
-ghost use Rattle.std.specs.Prelude.{◌≡◌, ◌∷◌, [], if◌then◌else◌, map, flat_map, IfOk, IfErr, OnErr, OnOk};
+ghost use Rattle.std.specs.Prelude.{◌≡◌, ◌∷◌, ◌⊎◌, [], if◌then◌else◌, map, flat_map, IfOk, IfErr, OnErr, OnOk};
 ghost use Rattle.std.specs.Io.KnownBytes.{Appends};
 ghost use Rattle.std.specs.List.{list_any};
 ghost use Rattle.folders.specs.Folders.{became_of};
+ghost use Rattle.folders.specs.Handed.{IsHanded, IsText};
 ghost use Rattle.folders.specs.Lines.{passed_line};
+ghost use Rattle.folders.specs.Paths.{file_path};
 ghost use Rattle.store.specs.Standing.{GoesOn};
 ghost use Rattle.commands.specs.Printing.{AppendsFront};
 ghost use Rattle.commands.specs.Stops.{IsDeviceStop};
+ghost use Rattle.commands.specs.TakenFiles.{AreListedTaken, AreListedUntold, IsStoppedAmong, IsUnbegun};
 ghost use Rattle.commands.specs.Takes as meant;
 
 use crate::causes::about_stop;
@@ -144,6 +147,19 @@ pub fn take<R: FileSystem + AllocGlobal + Clone + Drop, K: Keeper, W: io::Write,
         moment (W.contents out.old) (W.contents out.new)) }
     ensures halted { IfErr result (meant.IsFolderHalted (K.standing book.old) (K.standing book.new)
         moment (W.contents out.old) (W.contents out.new)) }
+
+    ensures listed { OnOk result (AreListedTaken (R.lists rt.now dir.now) (IsHanded
+        (R.reads rt.now) (R.writes rt.now) (R.lacks rt.now) dir.now) (K.standing book.old)
+        (K.standing book.new) moment (W.contents out.old) (W.contents out.new)) }
+    ensures until { IfErr result (λ stop. IsStoppedAmong (R.lists rt.now dir.now) (IsHanded
+        (R.reads rt.now) (R.writes rt.now) (R.lacks rt.now) dir.now)
+        (λ name. IsText (R.reads rt.now) (file_path dir.now name))
+        (K.standing book.old) (K.standing book.new) moment stop
+        ⊎ (AreListedUntold (R.lists rt.now dir.now) (IsHanded
+        (R.reads rt.now) (R.writes rt.now) (R.lacks rt.now) dir.now) (K.standing book.old)
+        (K.standing book.new) moment (W.contents out.old) (W.contents out.new) stop
+        ⊎ IsUnbegun (K.standing book.old) (K.standing book.new) stop)) }
+
     ensures goes { GoesOn (K.standing book.old) (K.standing book.new) }
 {
     let mut room = Vec::with_capacity(rt.alloc(), MOST_LINE)?;

@@ -1,6 +1,10 @@
 //! A folder that is taken into another: what was taken is moved there, with its answers.
-ghost use Rattle.std.specs.Prelude.{◌≡◌, if◌then◌else◌, IfErr, IfOk};
+ghost use Rattle.std.specs.Prelude.{◌≡◌, ◌⊎◌, if◌then◌else◌, IfErr, IfOk, OnOk};
+ghost use Rattle.folders.specs.Handed.{IsHanded, IsText};
+ghost use Rattle.folders.specs.Naming.{taking_path};
+ghost use Rattle.folders.specs.Paths.{file_path};
 ghost use Rattle.store.specs.Standing.{GoesOn};
+ghost use Rattle.commands.specs.TakenFiles.{AreListedTaken, AreListedUntold, IsStoppedMoving, IsUnbegun};
 ghost use Rattle.commands.specs.TakesInto as meant;
 
 use crate::causes::about_into_stop;
@@ -116,6 +120,22 @@ pub fn take_away<R: FileSystem + AllocGlobal + Clone + Drop, K: Keeper, W: io::W
         moment (W.contents out.old) (W.contents out.new)) }
     ensures halted { IfErr result (meant.IsInboxHalted (K.standing book.old) (K.standing book.new)
         moment (W.contents out.old) (W.contents out.new)) }
+
+    // The folder DONE/taking, as `take` says of its own.
+    ensures listed { OnOk result (AreListedTaken
+        (R.lists rt.now (taking_path inbox.now.done.now)) (IsHanded (R.reads rt.now)
+        (R.writes rt.now) (R.lacks rt.now) (taking_path inbox.now.done.now)) (K.standing book.old)
+        (K.standing book.new) moment (W.contents out.old) (W.contents out.new)) }
+    ensures until { IfErr result (λ stop. IsStoppedMoving
+        (R.lists rt.now (taking_path inbox.now.done.now)) (IsHanded (R.reads rt.now)
+        (R.writes rt.now) (R.lacks rt.now) (taking_path inbox.now.done.now))
+        (λ name. IsText (R.reads rt.now) (file_path (taking_path inbox.now.done.now) name))
+        (K.standing book.old) (K.standing book.new) moment stop
+        ⊎ (AreListedUntold (R.lists rt.now (taking_path inbox.now.done.now)) (IsHanded
+        (R.reads rt.now) (R.writes rt.now) (R.lacks rt.now) (taking_path inbox.now.done.now))
+        (K.standing book.old) (K.standing book.new) moment (W.contents out.old)
+        (W.contents out.new) stop ⊎ IsUnbegun (K.standing book.old) (K.standing book.new) stop)) }
+
     ensures goes { GoesOn (K.standing book.old) (K.standing book.new) }
 {
     let mut room = Vec::with_capacity(rt.alloc(), MOST_LINE)?;

@@ -1,5 +1,5 @@
 -- How runs over the files of a book end.
-use Rattle.std.proofs.Common.{◌≡◌, ◌≢◌, ◌∙◌, ℕ, List, Option, Ok, Err, refl}
+use Rattle.std.proofs.Common.{◌≡◌, ◌≢◌, ◌∙◌, ℕ, List, Option, Ok, Err, refl, sym, subst}
 use Rattle.sqlite_disk.specs.declared.Disk.{Ghosts as Disks}
 use Rattle.sqlite.specs.declared.FileStore.{FileStore}
 use Rattle.sqlite.specs.Files.{over_files}
@@ -7,13 +7,19 @@ use Rattle.sqlite.specs.Held.{Held, state}
 use Rattle.sqlite.specs.Recovery.{Image}
 use Rattle.sqlite.specs.Start.{FindsIn}
 use Rattle.sqlite.specs.State.{State, HasCleanDisk}
+use Rattle.sqlite.specs.Store.{Ghosts}
+use Rattle.profile.specs.Header.{Who}
+use Rattle.profile.specs.Register.{Entry}
+use Rattle.book_statements.specs.Carrying.{StandsInAs}
+use Rattle.seals.specs.declared.beginning.Beginning.{Beginning}
 use Rattle.commands.specs.Acting.{Ending}
 use Rattle.commands.specs.declared.told.CommandError.{CommandError}
 use Rattle.commands.specs.declared.told.ExitStatus.{ExitStatus}
 use Rattle.running.specs.Ended.{IsBusy, IsJobEnded, IsToldAs}
 use Rattle.running.specs.Checking.{IsFoundWhole}
-use Rattle.running.specs.FileEnds.{IsChecked, IsClosing, IsJobEnd, IsRunEnd, IsWholeFrom, IsWorkStop}
+use Rattle.running.specs.FileEnds.{IsChecked, IsClosing, IsJobEnd, IsRunEnd, IsWholeFrom, IsWorkStop, TellsBooks}
 use Rattle.running.specs.FromFile.{IsDoneFrom}
+use Rattle.running.specs.Unchecked.{OfBooksIn, OfCommitted}
 use Rattle.running.specs.declared.from_file.FilesLeft.{FilesLeft}
 use Rattle.running.specs.declared.from_file.FilesLeft.TheVariants as left
 use Rattle.running.specs.declared.over_file.Job.{Job}
@@ -81,7 +87,7 @@ module _ {D W : Type 0} {disk : Disks D} (contents : W → Option (List ℕ)) (i
   printed_nothing (job.Listen service first has_clock file) before later ending e l h = unopened_prints_nothing contents image (job.Listen service first has_clock file) before later ending e l h
   printed_nothing (job.Seal first) before later ending e l h = unopened_prints_nothing contents image (job.Seal first) before later ending e l h
   printed_nothing (job.HandOn who dir) before later ending e l h = unopened_prints_nothing contents image (job.HandOn who dir) before later ending e l h
-  printed_nothing (job.Check noted) before later ending e l h = h
+  printed_nothing (job.Check noted) before later ending e l h = let u = h.1 in u.printed
 
   -- where the files are in use, nothing is printed
   pub busy_prints_nothing : (j : Job) (before later : W) (ending : Ending) (files : FilesLeft D disk) → IsRunEnd contents image j before later ending files → IsBusy files → later ≡ before
@@ -104,15 +110,20 @@ module _ {D W : Type 0} {disk : Disks D} (contents : W → Option (List ℕ)) (i
   run_ends j before later first (Err stop) (left.Closed files) h t = record { first = first; told = t; run = h }
 
   -- a check whose database was then closed, or not
-  pub closing_checks : (before later : W) (status : ExitStatus) (database : Held (FileStore D disk)) → (HasCleanDisk (state over_files database) → IsWholeFrom image (contents before) (contents later))
-      → (ending : Ending) (files : FilesLeft D disk) → IsClosing database status ending files → IsChecked contents image before later files
-  closing_checks before later status database whole ending left.Untouched c = absurd c
-  closing_checks before later status database whole ending (left.Unopened error leftover) c = absurd c
-  closing_checks before later status database whole ending (left.Open held) c = absurd c
-  closing_checks before later status database whole ending left.Unchecked c = absurd c
-  closing_checks before later status database whole ending (left.Unclosed store) c = tt
-  closing_checks before later status database whole ending (left.Closed files) c = λ clean. whole (let copied = c.1 clean in copied.was_clean)
+  pub closing_checks : (noted : Option Beginning) (before later : W) (status : ExitStatus) (database : Held (FileStore D disk))
+      → (HasCleanDisk (state over_files database) → IsWholeFrom image (contents before) (contents later) × TellsBooks contents image noted before later)
+      → (ending : Ending) (files : FilesLeft D disk) → IsClosing database status ending files → IsChecked contents image noted before later ending files
+  closing_checks noted before later status database whole ending left.Untouched c = absurd c
+  closing_checks noted before later status database whole ending (left.Unopened error leftover) c = absurd c
+  closing_checks noted before later status database whole ending (left.Open held) c = absurd c
+  closing_checks noted before later status database whole ending left.Unchecked c = absurd c
+  closing_checks noted before later status database whole ending (left.Unclosed store) c = c.1
+  closing_checks noted before later status database whole ending (left.Closed files) c = λ clean. whole (let copied = c.1 clean in copied.was_clean)
 
 -- what was read anew is what the files held
 pub whole_of_files : (image : Image) (file : State) (before later : Option (List ℕ)) → FindsIn image file → IsFoundWhole file before later → IsWholeFrom image before later
 whole_of_files image file before later found w = record { read = w.read; sound = w.sound; trees = λ db held. w.trees ∙ found.holds db held; told = w.told }
+
+-- what is so of what was committed is so of the book that the files held
+pub of_books : {S : Type 0} (store : Ghosts S) (image : Image) (database : Held S) (P : Who → List Entry → Type 0) → FindsIn image (state store database) → OfCommitted store database P → OfBooksIn image P
+of_books store image database P found of q W L held = of q W L (subst (StandsInAs q W L) (sym (found.holds held.db held.held)) held.stands)

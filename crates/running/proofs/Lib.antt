@@ -9,6 +9,8 @@ mod CrossLemmas
 mod AgainLemmas
 mod DaysLemmas
 mod EndLemmas
+mod GrownLemmas
 mod RerunLemmas
+mod KeptLemmas
 mod JobLemmas
 mod CheckingLemmas

@@ -70,11 +70,11 @@ handed_in store contents (job.HandOn who dir) c t is old new before later ending
 handed_in store contents (job.Check noted) c t is old new before later ending w = absurd (cc)
 
 module _ {D : Type 0} {disk : Disks D} (left : Held (FileStore D disk)) (it : FileStore D disk) (go : IsLetGo left it) (clean : IsClean (files.view it)) (then : Image) (may : MayHold it then) where
-  was_clean : HasCleanDisk (state over_files left)
+  pub was_clean : HasCleanDisk (state over_files left)
   was_clean = omega (arith, go.quiet, clean)
 
   -- what the files hold is one of the databases that a stop may leave
-  holds_left : ∥ ((db : Trees) × (state over_files left).may_leave db × HoldsDatabase then db) ∥₁
+  pub holds_left : ∥ ((db : Trees) × (state over_files left).may_leave db × HoldsDatabase then db) ∥₁
   holds_left = ∥∥₁_map (opens_again it (go.numbered clean) (go.sound clean) then may) (λ found.
       let r : (db : Trees) × (state over_files left).may_leave db × HoldsDatabase then db = (found.0, go.fewer found.0 found.1, found.2) in r)
 
@@ -141,18 +141,13 @@ module _ {D : Type 0} {disk : Disks D} (left : Held (FileStore D disk)) (it : Fi
 
 -- The next run.
 module _ {S W : Type 0} (store : Ghosts S) (contents : W → Option (List ℕ)) (then : Image) (left : Held S) (j : Job) (before later : W) (status : ExitStatus)
-    (d : IsDoneFrom store contents then left j before later status) (clean : HasCleanDisk (state store left)) (V : Who) (M : List Entry) (hold : HoldBook then V M) where
-  -- its job is done over the book that the files hold
-  pub done_over : IsOfBook j → ∥ IsDoneOver store contents left j before later status V M ∥₁
-  done_over of = ∥∥₁_map hold (λ h.
-      let r : IsDoneOver store contents left j before later status V M = record { database = d.database; done = d.done; book = d.book of clean Two V M h } in r)
-
-  -- and so is answered what was answered before
-  pub stored_over : (L : List Entry) (c : Command) (t s : Moment) (text : List ℕ) → M ≡ after Two V L (c, t) → is_enrolment c ≡ false → command_in j ≡ Some (c, s) → reply_to Two V L c t ≡ Accepted text
-      → ∥ IsPrinted (Stored text) (contents before) (contents later) status ∥₁
-  stored_over L c t s text is other gives said = ∥∥₁_map hold (λ h.
+    (d : IsDoneFrom store contents then left j before later status) (clean : HasCleanDisk (state store left)) (V : Who) (M : List Entry) where
+  -- a reply is printed that is stored in the book which the files hold
+  pub printed_stored : (q : Rules) → HoldsBook then q V M → (c : Command) (s : Moment) (text : List ℕ) → command_in j ≡ Some (c, s) → reply_to Two V M c s ≡ Stored text
+      → IsPrinted (Stored text) (contents before) (contents later) status
+  printed_stored q h c s text gives stored =
       let done = d.done in
-      let book = d.book (gives_to_book j c s gives) clean Two V M h in
+      let book = d.book (gives_to_book j c s gives) clean q V M h in
       let w = handed_in store contents j c s gives done.opened done.worked before later (Ok status) done.work in
       let same = done.same in
       let goes = same.goes in
@@ -160,10 +155,21 @@ module _ {S W : Type 0} (store : Ghosts S) (contents : W → Option (List ℕ)) 
       let mid : (standing_of store done.worked).doubt ≡ 0 = omega (arith, goes.doubt, clean') in
       let u = book.usable in
       let printed = w.1.printed mid M u.keeps u.legal in
-      let answer : reply_to Two done.opened.warehouse M c s ≡ Stored text = ap (λ (U : Who). reply_to Two U M c s) book.warehouse
-      ∙ ap (λ (K : List Entry). reply_to Two V K c s) is ∙ stored_again Two V L c t text other said [] s in
-      let r : IsPrinted (Stored text) (contents before) (contents later) status = subst (λ (p : Reply). IsPrinted p (contents before) (contents later) status) answer printed in
-      r)
+      let answer : reply_to Two done.opened.warehouse M c s ≡ Stored text = ap (λ (U : Who). reply_to Two U M c s) book.warehouse ∙ stored in
+      subst (λ (p : Reply). IsPrinted p (contents before) (contents later) status) answer printed
+
+  module _ (hold : HoldBook then V M) where
+    -- its job is done over the book that the files hold
+    pub done_over : IsOfBook j → ∥ IsDoneOver store contents left j before later status V M ∥₁
+    done_over of = ∥∥₁_map hold (λ h.
+        let r : IsDoneOver store contents left j before later status V M = record { database = d.database; done = d.done; book = d.book of clean Two V M h } in r)
+
+    -- and so is answered what was answered before
+    pub stored_over : (L : List Entry) (c : Command) (t s : Moment) (text : List ℕ) → M ≡ after Two V L (c, t) → is_enrolment c ≡ false → command_in j ≡ Some (c, s)
+        → reply_to Two V L c t ≡ Accepted text → ∥ IsPrinted (Stored text) (contents before) (contents later) status ∥₁
+    stored_over L c t s text is other gives said =
+        let stored : reply_to Two V M c s ≡ Stored text = ap (λ (K : List Entry). reply_to Two V K c s) is ∙ stored_again Two V L c t text other said [] s in
+        ∥∥₁_map hold (λ h. printed_stored Two h c s text gives stored)
 
 module _ {D S W : Type 0} {disk : Disks D} (store : Ghosts S) (contents : W → Option (List ℕ)) (first then : Image) (one two : Job) (before later : W) where
   found_by : {E : Type 0} (e : Ending) (stopped : FileStore D disk) → LeavesBook first one e stopped → (next : Result (ExitStatus × Held S) E) → IfOk next (λ r. IsDoneFrom store contents then r.1 two before later r.0)

@@ -1,6 +1,7 @@
 -- Files that couldn't be opened as a database.
-use Rattle.std.proofs.Common.{◌≡◌, ◌≢◌, ◌⊎◌, ◌<◌, Option, None, Some, IfSome, ap, sym, refl, subst, ◌∙◌, inl, inr, arith}
+use Rattle.std.proofs.Common.{◌≡◌, ◌≢◌, ◌⊎◌, ◌<◌, ℕ, Bool, List, cond, Option, None, Some, IfSome, ap, sym, refl, subst, ◌∙◌, inl, inr, arith}
 use Rattle.sqlite_disk.specs.declared.Disk.{Ghosts as Disks}
+use Rattle.sqlite_disk.specs.Events.{Event, replay}
 use Rattle.sqlite_disk.specs.declared.Files.{Files}
 use Rattle.sqlite.specs.declared.error.Error.{Error}
 use Rattle.sqlite.specs.declared.error.Error.TheVariants.{SqliteFailure}
@@ -12,6 +13,13 @@ use Rattle.store.specs.Fault.{Fault}
 use Rattle.store.specs.Fault.TheVariants.{Device, NotThisBook, OutOfMemory}
 use Rattle.running.specs.Faults.{fault_of}
 use Rattle.running.specs.FromFile.{CanBeOpened, IsUnopened}
+
+-- what the two files held as they were opened, by the calls made of them since
+abbrev pub image : List ℕ → List ℕ → Image
+image log db = record { log = log; db = db }
+
+abbrev pub seen : List ℕ → List ℕ → Bool → List Event → List ℕ
+seen log db is_log history = (replay (cond is_log log db) history).seen
 
 -- no error is told so that is another one
 other : (e f : Error) (told : Fault) → e ≡ f → fault_of f ≡ told → told ≢ NotThisBook → fault_of e ≢ NotThisBook

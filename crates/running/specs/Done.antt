@@ -25,6 +25,11 @@ abbrev pub IsNotBegun : {S : Type 0} → Ghosts S → Held S → Held S → Job 
 IsNotBegun store database back (job.Make W) fault = IsNotMade store database back W fault
 IsNotBegun store database back other fault = IsNotOpened store database back fault
 
+-- after all jobs but a change, nothing more is asked of the book
+abbrev pub StaysAs : {K : Type 0} → Job → K → K → Type 0
+StaysAs (job.Change ready moment) book left = Unit {0}
+StaysAs other book left = left ≡ book
+
 -- The book for the job was had, the job was done over it, once, and then nothing but why it was
 -- refused was asked, before the book's database was given back.
 pub record IsJobDone
@@ -36,6 +41,7 @@ pub record IsJobDone
   pub work : IsWork (standing_of store) contents opened before job worked later (Ok status)
   pub closed : Opened S
   pub same : IsUnchanged (standing_of store worked) (standing_of store closed)
+  pub stays : StaysAs job worked closed
   pub back : left ≡ closed.tables.conn
 
 -- The book for the job was had, and the job was stopped over it, before the book's database was

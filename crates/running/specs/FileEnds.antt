@@ -1,5 +1,6 @@
 -- How a job over the book in files ended, and what is left of these.
-use Rattle.std.specs.Prelude.{◌≡◌, ℕ, List, Option, Ok, Err}
+use Rattle.std.specs.Prelude.{◌≡◌, ℕ, true, List, Option, Ok, Err, length}
+use Rattle.std.specs.Io.KnownBytes.{Appends}
 use Rattle.sqlite_disk.specs.declared.Disk.{Ghosts as Disks}
 use Rattle.sqlite.specs.declared.FileStore.{FileStore}
 use Rattle.sqlite.specs.Closing.{IsCopied}
@@ -15,9 +16,11 @@ use Rattle.commands.specs.Acting.{Ending}
 use Rattle.commands.specs.declared.told.CommandError.{CommandError}
 use Rattle.commands.specs.declared.told.CommandError.TheVariants as stopped
 use Rattle.commands.specs.declared.told.ExitStatus.{ExitStatus}
-use Rattle.running.specs.Checking.{TellsWhole}
+use Rattle.seals.specs.declared.beginning.Beginning.{Beginning}
+use Rattle.running.specs.Checking.{TellsWhole, begins_as, told_whole}
 use Rattle.running.specs.Faults.{IsClosingFault, fault_of}
 use Rattle.running.specs.FromFile.{IsDoneFrom, IsStoppedFrom, IsUnopened}
+use Rattle.running.specs.Unchecked.{IsNoneWhole, OfBooksIn}
 use Rattle.running.specs.declared.from_file.FilesLeft.{FilesLeft}
 use Rattle.running.specs.declared.from_file.FilesLeft.TheVariants as left
 use Rattle.running.specs.declared.over_file.Job.{Job}
@@ -30,6 +33,13 @@ pub record IsWholeFrom (image : Image) (before later : Option (List ℕ)) : Type
   pub sound : IsDatabase read
   pub trees : (db : Trees) → HoldsDatabase image db → read.trees ≡ db
   pub told : IsLayout read.schema → (IsOfFirst read → ⊥) → TellsWhole read before later
+
+-- a book that the files held is told by the number of its entries, and begins as it was noted
+abbrev pub TellsBooks : {W : Type 0} → (W → Option (List ℕ)) → Image → Option Beginning → W → W
+    → Type 0
+TellsBooks contents image noted before later = OfBooksIn image
+    (λ _ L. Appends (contents before) (contents later) (told_whole (length L))
+    × (begins_as noted L ≡ true))
 
 module _ {D : Type 0} {disk : Disks D} where
   -- The files of a database were closed: what was committed is in the file, as it reads now and
@@ -44,13 +54,17 @@ module _ {D : Type 0} {disk : Disks D} where
 
   module _ {W : Type 0} (contents : W → Option (List ℕ)) (image : Image) where
     -- the book in the files was checked whole, or it couldn't be, or it isn't whole
-    abbrev pub IsChecked : W → W → FilesLeft D disk → Type 0
-    IsChecked before later (left.Closed files) = AreClean disk files.log files.db
-        → IsWholeFrom image (contents before) (contents later)
-    IsChecked before later (left.Unopened error leftover) = later ≡ before
-    IsChecked before later (left.Open database) = ⊥
-    IsChecked before later left.Untouched = ⊥
-    IsChecked before later other = Unit {0}
+    abbrev pub IsChecked : Option Beginning → W → W → Ending → FilesLeft D disk → Type 0
+    IsChecked noted before later ending (left.Closed files) = AreClean disk files.log files.db
+        → IsWholeFrom image (contents before) (contents later) × TellsBooks contents image noted before later
+    IsChecked noted before later ending (left.Unopened error leftover) =
+        (ending ≡ Err (stopped.Fault (fault_of error)))
+        × IsUnopened image error leftover before later
+    IsChecked noted before later ending left.Unchecked = (stop : CommandError)
+        × (ending ≡ Err stop) × IsNoneWhole (over_files {D = D} {g = disk}) image noted stop
+    IsChecked noted before later ending (left.Unclosed store) = (stop : CommandError)
+        × (ending ≡ Err stop) × IsClosingFault stop
+    IsChecked noted before later ending other = ⊥
 
     -- the files couldn't be opened, or the job was stopped over the book in them
     abbrev pub IsWorkStop : Job → W → W → CommandError → FilesLeft D disk → Type 0
@@ -77,5 +91,6 @@ module _ {D : Type 0} {disk : Disks D} where
 
     -- the same of a check, or of another job
     abbrev pub IsRunEnd : Job → W → W → Ending → FilesLeft D disk → Type 0
-    IsRunEnd (job.Check noted) before later ending files = IsChecked before later files
+    IsRunEnd (job.Check noted) before later ending files =
+        IsChecked noted before later ending files
     IsRunEnd j before later ending files = IsJobEnd j before later ending files

@@ -6,7 +6,9 @@ pub mod Explaining
 pub mod Faults
 pub mod FromFile
 pub mod FileEnds
+pub mod Grown
 pub mod Opening
+pub mod Program
 pub mod Rerun
 pub mod Stopped
 pub mod StopFaults

@@ -1,6 +1,7 @@
--- Why a book in a database wasn't found whole.
+-- Why a book in a database, or in the files that it was opened of, wasn't found whole.
 use Rattle.std.specs.Prelude.{◌≡◌, ◌⊎◌, ◌<◌, ◌≤◌, false, List, Option, Some, IsTrue}
 use Rattle.sqlite.specs.Held.{Held, state}
+use Rattle.sqlite.specs.Recovery.{Image}
 use Rattle.sqlite.specs.State.{HasCleanDisk}
 use Rattle.sqlite.specs.Store.{Ghosts}
 use Rattle.sqlite.specs.Tree.{Trees}
@@ -18,6 +19,7 @@ use Rattle.commands.specs.Stops.{fault_in}
 use Rattle.commands.specs.declared.told.CommandError.{CommandError}
 use Rattle.running.specs.Checking.{IsCheckStopped, WasFirst, begins_as, committed_trees}
 use Rattle.seals.specs.declared.beginning.Beginning.{Beginning}
+use Rattle.running.specs.FromFile.{HoldsBook}
 use Rattle.running.specs.Faults.{IsReadFault}
 use Rattle.running.specs.Opening.{IsBookOf, IsOpenedAnew}
 
@@ -47,8 +49,9 @@ IsOfCommitted store database book = HasCleanDisk (state store book.tables.conn)
 
 -- What is left of the store of a database in which no book was found whole. That it isn't this
 -- book (43) is told only where what was committed stands for no register of a warehouse, or for one
--- that doesn't begin as it was noted, or the disk told of a fault; and a crash leaves no more than before, whatever was committed, but for a book of
--- version 1, which is carried over first. Both if no answer of the disk was wrong.
+-- that doesn't begin as it was noted, or the disk told of a fault; and a crash leaves no more than
+-- before, whatever was committed, but for a book of version 1, which is carried over first. Both if
+-- no answer of the disk was wrong.
 pub record IsLeftUnchecked
     {S : Type 0} (store : Ghosts S) (database : Held S) (noted : Option Beginning)
     (stop : CommandError) : Type 0 where
@@ -59,6 +62,22 @@ pub record IsLeftUnchecked
       (λ _ L. (0 < store.faults left) ⊎ (begins_as noted L ≡ false))
   pub no_more : IsClean (store.view left) → (WasFirst (state store database) → ⊥) → (db : Trees)
       → store.recovers left db → (state store database).may_leave db
+
+-- what is so of each book that the files held
+abbrev pub OfBooksIn : Image → (Who → List Entry → Type 0) → Type 0
+OfBooksIn image P = (q : Rules) (W : Who) (L : List Entry) → HoldsBook image q W L → P W L
+
+-- No book was found whole in the database that was opened of the files. That it isn't this book (43)
+-- is told of files that held one only where its register doesn't begin as it was noted, or the disk
+-- told of a fault.
+pub record IsNoneWhole
+    {S : Type 0} (store : Ghosts S) (image : Image) (noted : Option Beginning)
+    (stop : CommandError) : Type 0 where
+  pub database : Held S
+  pub why : IsUnchecked store database noted stop
+  pub left : IsLeftUnchecked store database noted stop
+  pub this : IsClean (store.view (left.left)) → fault_in stop ≡ Some NotThisBook → OfBooksIn image
+      (λ _ L. (0 < store.faults (left.left)) ⊎ (begins_as noted L ≡ false))
 
 -- The same of tables that were read anew, and that were to be carried over and read anew again.
 pub record IsLeftCarrying

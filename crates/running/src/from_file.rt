@@ -138,7 +138,8 @@ fn check_from<S: Start, W: io::Write, E: io::Write>(
     out: &mut W,
     err: &mut E,
 ) -> Ended<FileFrom<S>>
-    ensures { IsChecked W.contents (image_at S.Start) out.old out.new result.files }
+    ensures { IsChecked W.contents (image_at S.Start) noted.now out.old out.new result.ending
+        result.files }
 {
     match Connection::open_from(rt, file, false, start) {
         Ok(database) => match check_over(rt.alloc(), database, noted, verbosity, out, err) {

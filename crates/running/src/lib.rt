@@ -16,5 +16,5 @@ mod waiting;
 
 pub use from_file::FilesLeft;
 pub use over_file::Job;
-pub use run::{command, command_from};
+pub use run::{FilesBehind, command, command_from, command_leaving};
 pub use starting::program;

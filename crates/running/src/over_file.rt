@@ -4,7 +4,7 @@ ghost use Rattle.std.specs.Prelude.{◌≡◌, false, Some, IfErr, IfOk, option_
 ghost use Rattle.seals.specs.Noted as meant;
 ghost use Rattle.store.specs.Standing.{IsUnchanged};
 ghost use Rattle.books.specs.Opening.{IsHandedBack, IsOpened};
-ghost use Rattle.running.specs.Done.{IsBegun, IsJobDone, IsJobStopped, IsNotBegun};
+ghost use Rattle.running.specs.Done.{IsBegun, IsJobDone, IsJobStopped, IsNotBegun, StaysAs};
 ghost use Rattle.running.specs.Working.{IsJobFor, IsNoJobFor, IsWork};
 
 use crate::book_files::{close, make};
@@ -127,7 +127,8 @@ fn explain<K: Keeper, E: io::Write>(
     verbosity: Verbosity,
     err: &mut E,
 )
-    ensures { IsUnchanged (K.standing book.old) (K.standing book.new) }
+    ensures same { IsUnchanged (K.standing book.old) (K.standing book.new) }
+    ensures stays { StaysAs job.now book.old book.new }
 {
     if !verbosity.explains || status != ExitStatus::Refused {
         return;

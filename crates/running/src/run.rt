@@ -4,6 +4,7 @@ ghost use Rattle.commands.specs.Statuses.{IsCode};
 ghost use Rattle.commands.specs.Stops.{IsDeviceStop};
 ghost use Rattle.sqlite.specs.WalFiles.{image_at};
 ghost use Rattle.running.specs.Ended.{IsLineEnded, IsLineRun, IsProgramRun, IsWordsEnded, says_wary};
+ghost use Rattle.running.specs.Program.{IsCommandRun};
 ghost use Rattle.command_line.specs.Asked.{IsLineRead};
 ghost use Rattle.command_line.specs.declared.words.Place.TheVariants.{Program};
 
@@ -217,6 +218,43 @@ fn is_line_wary(alloc: Global, words: &[&str]) -> Result<bool, AllocError> {
     }
 }
 
+/// What is left of the files of a line's book, by what was supposed of its disk.
+#[derive(Drop)]
+pub enum FilesBehind {
+    /// A torn write leaves each byte old or new.
+    Supposed(FilesLeft<FileFrom<Unknown>>),
+    /// Nothing was supposed.
+    Wary(FilesLeft<FileFrom<Wary>>),
+}
+
+/// Runs one line of words as `command` does, and tells what is left of the files of its book beside
+/// the exit status.
+pub fn command_leaving<W: io::Write, E: io::Write>(
+    rt: &HostRuntime,
+    words: &[&str],
+    out: &mut W,
+    err: &mut E,
+) -> (u8, FilesBehind)
+    ensures run { IsCommandRun W.contents (image_at ⟦<Unknown as Start>⟧)
+        (image_at ⟦<Wary as Start>⟧) words.now out.old out.new result.0 result.1 }
+    ensures code { IsCode result.0 }
+{
+    match is_line_wary(rt.alloc(), words) {
+        Ok(true) => {
+            let (code, files) = command_from(rt, || Wary, words, out, err);
+            (code, FilesBehind::Wary(files))
+        }
+        Ok(false) => {
+            let (code, files) = command_from(rt, || Unknown, words, out, err);
+            (code, FilesBehind::Supposed(files))
+        }
+        Err(error) => {
+            let (code, files) = stopped_before(error, err);
+            (code, FilesBehind::Supposed(files))
+        }
+    }
+}
+
 /// Runs one line of words, without the program's name: its output goes to `out`, its refusals and
 /// faults to `err`. Where one of the words is `--explain`, and on a terminal, what a fault or a
 /// refused sheet is about is told after it. The exit status is 0 where all was done or help was
@@ -230,11 +268,10 @@ pub fn command<W: io::Write, E: io::Write>(
     out: &mut W,
     err: &mut E,
 ) -> u8
-    ensures { IsCode result }
+    ensures run { (behind : FilesBehind) × IsCommandRun W.contents
+        (image_at ⟦<Unknown as Start>⟧) (image_at ⟦<Wary as Start>⟧) words.now out.old out.new
+        result behind }
+    ensures code { IsCode result }
 {
-    match is_line_wary(rt.alloc(), words) {
-        Ok(true) => command_from(rt, || Wary, words, out, err).0,
-        Ok(false) => command_from(rt, || Unknown, words, out, err).0,
-        Err(error) => tell_stop(err, &CommandError::from(error), false).code(),
-    }
+    command_leaving(rt, words, out, err).0
 }

@@ -1,9 +1,12 @@
 //! The program's words, as the system hands them over.
-ghost use Rattle.std.specs.Prelude.{IfOk};
+ghost use Rattle.std.specs.Prelude.{◌≡◌, OnErr, IfOk};
 ghost use Rattle.commands.specs.Statuses.{IsCode};
+ghost use Rattle.running.specs.Program.{HasRun, IsProgram};
+ghost use Rattle.sqlite.specs.WalFiles.{image_at};
 
 use crate::run::command;
 use commands::{CommandError, tell_stop, usage};
+use sqlite::{Start, Unknown, Wary};
 use std::rt::Env;
 use std::{env, io};
 
@@ -24,7 +27,10 @@ fn run<W: io::Write, E: io::Write>(
     out: &mut W,
     err: &mut E,
 ) -> Result<u8, CommandError>
-    ensures { IfOk result IsCode }
+    ensures ran { IfOk result (λ code. HasRun W.contents (image_at ⟦<Unknown as Start>⟧)
+        (image_at ⟦<Wary as Start>⟧) out.old out.new code) }
+    ensures code { IfOk result IsCode }
+    ensures silent { OnErr result (out.new ≡ out.old) }
 {
     let owned = words_of(rt)?;
     let words: Vec<&str> = owned.iter().map(|word| word.as_str()).collect(rt.alloc())?;
@@ -32,9 +38,11 @@ fn run<W: io::Write, E: io::Write>(
 }
 
 /// Runs the line of words that the program was started with, as `command` does. A word that isn't
-/// UTF-8 text is a usage fault.
+/// UTF-8 text is a usage fault; then, and where the words can't be had, nothing is opened.
 pub fn program<W: io::Write, E: io::Write>(rt: &HostRuntime, out: &mut W, err: &mut E) -> u8
-    ensures { IsCode result }
+    ensures run { IsProgram W.contents (image_at ⟦<Unknown as Start>⟧)
+        (image_at ⟦<Wary as Start>⟧) out.old out.new result }
+    ensures code { IsCode result }
 {
     match run(rt, out, err) {
         Ok(status) => status,

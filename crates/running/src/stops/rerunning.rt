@@ -4,6 +4,7 @@ ghost use Rattle.sqlite.specs.declared.FileStore.{FileStore};
 ghost use Rattle.sqlite.specs.Held.{Held};
 ghost use Rattle.sqlite.specs.Files.{over_files};
 ghost use Rattle.sqlite.specs.WalFiles.{image_at};
+ghost use Rattle.running.specs.Grown.{FindsKept, KeepsBook};
 ghost use Rattle.running.specs.Rerun.{FindsAnswered, IsLetGo, LeavesBook, ResendIsStored};
 
 use crate::from_file::{FilesLeft, work_from};
@@ -61,6 +62,8 @@ pub fn run_and_stop<S: Start, W: io::Write, E: io::Write>(
 ) -> Option<StoppedRun<FileFrom<S>>>
     ensures left { IfSome result
         (λ run. LeavesBook (image_at S.Start) job.now run.ended run.left) }
+    ensures kept { IfSome result (λ run. KeepsBook W.contents (image_at S.Start) job.now out.old
+        out.new run.ended run.left) }
 {
     match work_from(rt, file, start, job, QUIET, out, err) {
         Ok((status, database)) => Some(StoppedRun {
@@ -72,9 +75,11 @@ pub fn run_and_stop<S: Start, W: io::Write, E: io::Write>(
 }
 
 /// Two runs over the files of one book. The first does its job and is stopped, before its files are
-/// closed; the second begins with what the files hold then. Where the first job was done, the other
-/// is done over the book with what the first answered; and an interchange or an act that the first
-/// accepted is answered by the second, when it is given again, by the text that went out for it.
+/// closed; the second begins with what the files hold then. Whatever the jobs are (a command, a
+/// list, a folder, a batch, a server), the second is done over the book with all that stood before
+/// the first, and entries of commands that were accepted on it. Where the first was one command and
+/// was done, that is the book with what it answered; and an interchange or an act that it accepted
+/// is answered by the second, when it is given again, by the text that went out for it.
 pub fn run_twice<S: Start, T: Start, W: io::Write, E: io::Write>(
     rt: &HostRuntime,
     file: &str,
@@ -93,6 +98,9 @@ pub fn run_twice<S: Start, T: Start, W: io::Write, E: io::Write>(
     ensures found { IfSome result.0 (λ run. OnOk run.ended (IfOk result.1
         (λ r. FindsAnswered over_files W.contents (image_at S.Start) (image_at T.Start) run.left r.1
         first.entry.1.now next.entry.1.now again.old again.new r.0))) }
+    ensures kept { IfSome result.0 (λ run. IfOk result.1
+        (λ r. FindsKept over_files W.contents (image_at S.Start) (image_at T.Start) run.left r.1
+        first.entry.1.now next.entry.1.now again.old again.new r.0)) }
     ensures stored { IfSome result.0 (λ run. OnOk run.ended (IfOk result.1
         (λ r. ResendIsStored over_files W.contents (image_at S.Start) (image_at T.Start) run.left
         r.1 first.entry.1.now next.entry.1.now again.old again.new r.0))) }

@@ -1,4 +1,4 @@
-use Rattle.std.proofs.Common.{rules, inl, inr, Err, sym, ap, subst, ◌∙◌, map, Bor, List, ℕ}
+use Rattle.std.proofs.Common.{rules, inl, inr, refl, Err, sym, ap, subst, ◌∙◌, map, Bor, List, ℕ}
 use Rattle.store.proofs.Changes.{goes_trans, unchanged_refl}
 use Rattle.folders.proofs.Taking.{handed_on}
 use Rattle.command_line.specs.Asked.{CanBeRead}
@@ -21,6 +21,7 @@ returns-in_err-status-clause-stopped g c =
       done = c.in_err-status.ensures.answered;
       goes = c.answer.ensures.goes;
       same = unchanged_refl _;
+      last = refl;
     })))
 
 pub returns-in_err-asked-clause-stopped : goal.returns-in_err-asked-clause-stopped

@@ -1,11 +1,9 @@
-use Rattle.std.proofs.Common.{Bool, List, ℕ, ap, ap₂, cond}
-use Rattle.sqlite_disk.specs.Events.{Event, replay}
+use Rattle.std.proofs.Common.{ap, ap₂}
 use Rattle.sqlite.specs.Files.{over_files}
-use Rattle.sqlite.specs.Recovery.{Image}
 use Rattle.sqlite.specs.WalFiles.{image_at}
 use Rattle.commands.specs.declared.told.CommandError.TheVariants as stop
 use Rattle.running.proofs.FromFileLemmas.{done_from, stopped_from}
-use Rattle.running.proofs.UnopenedLemmas.{unopened}
+use Rattle.running.proofs.UnopenedLemmas.{image, seen, unopened}
 use Rattle.running.proofs.from_file.work_from.Goals as goal
 
 pub returns-in-Ok-work_over-clause-done : goal.returns-in-Ok-work_over-clause-done
@@ -17,13 +15,6 @@ pub returns-in-Err-work_over-clause-stopped : goal.returns-in-Err-work_over-clau
 returns-in-Err-work_over-clause-stopped g c =
     stopped_from over_files g.W.Write.contents (image_at g.S.Start) c.in-Ok.database c.in-Err-work_over.left c.in-Ok.ensures.opened c.in-Ok.ensures.found c.settle.ensures c.args.job.now
     c.args.out.now c.work_over.new.out c.in-Err-work_over.stop c.in-Err-work_over.ensures.stopped
-
--- what the two files held as they were opened, by the calls made of them since
-abbrev image : List ℕ → List ℕ → Image
-image log db = record { log = log; db = db }
-
-abbrev seen : List ℕ → List ℕ → Bool → List Event → List ℕ
-seen log db is_log history = (replay (cond is_log log db) history).seen
 
 pub returns-in-Err-clause-stopped : goal.returns-in-Err-clause-stopped
 returns-in-Err-clause-stopped g c = (

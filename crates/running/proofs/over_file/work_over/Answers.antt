@@ -8,7 +8,8 @@ returns-in-Ok-work-clause-done g c = record {
   worked = c.work.new.book;
   work = c.in-Ok-work.ensures.worked;
   closed = c.explain.new.book;
-  same = c.explain.ensures;
+  same = c.explain.ensures.same;
+  stays = c.explain.ensures.stays;
   back = c.close.ensures;
 }
 
