@@ -68,7 +68,7 @@ def installed():
     same("subcommands", completed("whx12", "co"), ["count"])
     same("options", completed("whx12", "take", "--d"), ["--done"])
     same("help", completed("whx12", "help", "sto"), ["stock"])
-    same("files", completed("whx12", "send", "/usr/share/doc/whx12/REA"), ["/usr/share/doc/whx12/README.Debian", "/usr/share/doc/whx12/README.md"])
+    same("files", sorted(completed("whx12", "send", "/usr/share/doc/whx12/REA")), ["/usr/share/doc/whx12/README.Debian", "/usr/share/doc/whx12/README.md"])
 
 
 def life(first, second):

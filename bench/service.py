@@ -270,6 +270,10 @@ def units(house):
     same("the socket's mode", oct(os.stat(socket).st_mode & 0o777), "0o660")
     asking = ["curl", "-s", "--unix-socket", socket, "-w", "%{http_code}"]
     same("health", house.run([*asking, "http://localhost/health"])[1].splitlines()[:2], ["ok", "version 2.0"])
+    # A second server at its socket ends, and the first one doesn't count it.
+    other = ["--book", house.at("other.book")]
+    same("another book", house.run(["whx12", "init", "ZZ-WHSE2", *other])[0], 0)
+    same("a second server", house.run(["whx12", "serve", *other, "--listen", f"unix:{socket}"])[::2], (3, "fault 44 Device\n"))
     for path in ("x12", "outbox/ZZ-ACME"):
         house.put(text_of(7), "text.x12")
         words = ["--data-binary", "@" + house.at("text.x12")] if path == "x12" else []

@@ -2,19 +2,44 @@
 use command_line::Endpoint;
 use intake::Listener;
 use std::fs::{self, Permissions};
-use std::io;
+use std::io::{self, Read, Write};
 use std::net::TcpListener;
 use std::os::unix::fs::{FileTypeExt, PermissionsExt};
 use std::os::unix::net::{UnixListener, UnixStream};
+use std::time::Duration;
 
 // Its owner and its group may call, and nobody else. The group is the one that its folder gives.
 const SOCKET_MODE: u32 = 0o660;
+
+// For how many seconds an answer of another server is waited for.
+const PATIENCE: u64 = 1;
+
+// More than the answer has.
+const ANSWER_BYTES: usize = 512;
+
+// Asks a server whether it is well, which it neither counts nor tells, and hears its answer. One
+// who only called would be counted.
+fn greet(mut stream: UnixStream) -> io::Result<()> {
+    stream.set_read_timeout(Some(Duration::from_secs(PATIENCE)))?;
+    stream.write_all(b"GET /health HTTP/1.1\r\n\r\n")?;
+    let mut answer = [0; ANSWER_BYTES];
+    for _ in 0..ANSWER_BYTES {
+        if stream.read(&mut answer)? == 0 {
+            break;
+        }
+    }
+    Ok(())
+}
 
 // Whether a socket lies at a path at which nobody listens any more.
 fn is_left(rt: &HostRuntime, path: &str) -> io::Result<bool> {
     match fs::symlink_metadata(rt, path) {
         Ok(found) if found.file_type().is_socket() => match UnixStream::connect(rt, path) {
-            Ok(_) => Ok(false),
+            // Whoever listens there listens, whatever is answered.
+            Ok(stream) => {
+                let _ = greet(stream);
+                Ok(false)
+            }
             Err(error) => Ok(error.kind() == io::ErrorKind::ConnectionRefused),
         },
         Ok(_) => Ok(false),

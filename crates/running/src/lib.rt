@@ -7,6 +7,7 @@ mod book_files;
 mod checking;
 mod explaining;
 mod from_file;
+mod missing_texts;
 mod over_file;
 mod over_server;
 mod run;

@@ -8,6 +8,7 @@ ghost use Rattle.running.specs.Done.{IsBegun, IsJobDone, IsJobStopped, IsNotBegu
 ghost use Rattle.running.specs.Working.{IsJobFor, IsNoJobFor, IsWork};
 
 use crate::book_files::{close, make};
+use crate::missing_texts::tell_missing;
 use books::{Book, Tables};
 use command_line::{Service, Task};
 use commands::{
@@ -117,8 +118,8 @@ fn begin<S: Alter + Drop, E: io::Write>(
     }
 }
 
-// Tells why what a clerk did was refused, where that is asked for. What can't be told is left out:
-// the refusal stands.
+// Tells why what a clerk did was refused, and that a text never went out, where that is asked for.
+// What can't be told is left out: the refusal stands.
 fn explain<K: Keeper, E: io::Write>(
     alloc: Global,
     book: &mut K,
@@ -133,8 +134,12 @@ fn explain<K: Keeper, E: io::Write>(
     if !verbosity.explains || status != ExitStatus::Refused {
         return;
     }
-    if let Job::Change(Ready::Clerk(slip), _) = job {
-        let _ = tell_reason(alloc, book, slip, err);
+    match job {
+        Job::Change(Ready::Clerk(slip), _) => {
+            let _ = tell_reason(alloc, book, slip, err);
+        }
+        Job::Look(Look::Outbox(who, Some(number))) => tell_missing(err, who.text(), *number),
+        _ => {}
     }
 }
 

@@ -1,7 +1,10 @@
 //! What a line says, done by a running server.
-use command_line::{Endpoint, Task};
+use crate::missing_texts::tell_missing;
+use command_line::{Endpoint, Show, Task};
 use commands::{CommandError, ExitStatus, Verbosity, tell_unready};
-use errands::{HandOn, Listening, Network, carry_out, errand_of, hand_on_there, tell_reason_there};
+use errands::{
+    Errand, HandOn, Listening, Network, carry_out, errand_of, hand_on_there, tell_reason_there,
+};
 use std::io;
 use store::{Refusal, Who};
 
@@ -46,6 +49,15 @@ pub fn run_over_server<W: io::Write, E: io::Write>(
             if verbosity.explains && status == ExitStatus::Refused {
                 // What can't be told is left out: the refusal stands.
                 let _ = tell_reason_there(alloc, &mut courier, server, &errand, err);
+                if let Errand::Look(
+                    Show::Outbox {
+                        who,
+                        number: Some(number),
+                    },
+                ) = &errand
+                {
+                    tell_missing(err, who.as_bytes(), *number);
+                }
             }
             Ok(status)
         }
