@@ -60,14 +60,15 @@ def installed():
     same("the owner and the mode of the folder", run("stat", "-c", "%U %G %a", "/var/lib/whx12"), "whx12 whx12 750\n")
     page = subprocess.run(["man", "--warnings", "whx12"], capture_output=True, text=True, check=False, env=dict(os.environ, MANWIDTH="100", LC_ALL="C.UTF-8"))
     same("man: status and warnings", (page.returncode, page.stderr), (0, ""))
-    for word in ("count WHO TICKET SHIPMENT SHEET", "EXIT STATUS", BOOK):
+    for word in ("count WHO TICKET SHIPMENT SHEET", "EXIT STATUS", BOOK + "\n"):
         same(f"{word} in the page", word in page.stdout, True)
     units = [f"/usr/lib/systemd/system/{name}" for name in ("whx12.service", "whx12-backup.service", "whx12-backup.timer")]
     checked = subprocess.run(["systemd-analyze", "verify", *units], capture_output=True, text=True, check=False)
     same("systemd-analyze: status and warnings", (checked.returncode, [it for it in checked.stderr.splitlines() if "whx12" in it]), (0, []))
     same("subcommands", completed("whx12", "co"), ["count"])
     same("options", completed("whx12", "take", "--d"), ["--done"])
-    same("help", completed("whx12", "help", "sto"), ["stock"])
+    same("help", (completed("whx12", "help", "sto"), completed("whx12", "help", "stock", "")), (["stock"], []))
+    same("a command after an option", completed("whx12", "--explain", "dep"), ["depositors"])
     same("files", sorted(completed("whx12", "send", "/usr/share/doc/whx12/REA")), ["/usr/share/doc/whx12/README.Debian", "/usr/share/doc/whx12/README.md"])
 
 

@@ -11,8 +11,12 @@ umask 022
 here=$(cd "$(dirname "$0")" && pwd)
 root=$here/../..
 [ "$#" -ge 2 ] || { echo "usage: build.sh PROGRAM FOLDER [VERSION]" >&2; exit 2; }
-program=$1 folder=$2 own=$("$1" --version)
+program=$(command -v "$1") || { echo "build.sh: no program $1" >&2; exit 2; }
+folder=$2 own=$("$program" --version)
 version=${3-${own#whx12 }-1}
+case $version in
+'' | *[!0-9A-Za-z.+~-]*) echo "build.sh: $version is no version of a package" >&2; exit 2 ;;
+esac
 made=$(mktemp -d)
 trap 'rm -rf "$made"' EXIT
 trap 'exit 1' HUP INT TERM
@@ -20,15 +24,13 @@ package=$made/package
 doc=$package/usr/share/doc/whx12
 units=$package/usr/lib/systemd/system
 
-mkdir -p "$package/DEBIAN" "$package/usr/bin" "$package/usr/lib/whx12" "$units" "$package/etc/default" "$doc/docs" "$doc/examples" \
+mkdir -p "$package/DEBIAN" "$package/usr/bin" "$package/usr/lib/whx12" "$units" "$package/etc/default" "$doc" \
     "$package/usr/share/man/man1" "$package/usr/share/bash-completion/completions"
 cp "$program" "$package/usr/bin/whx12"
 cp "$root/examples/service/backup.sh" "$package/usr/lib/whx12/backup.sh"
 chmod 0755 "$package/usr/bin/whx12" "$package/usr/lib/whx12/backup.sh"
 cp "$here/default" "$package/etc/default/whx12"
-cp "$root/README.md" "$root/SECURITY.md" "$here/README.Debian" "$doc"
-cp "$root/docs"/*.md "$doc/docs"
-cp -R "$root/examples/day" "$root/examples/service/whx12.nginx" "$doc/examples"
+cp -R "$root/README.md" "$root/SECURITY.md" "$root/CONTRIBUTING.md" "$root/docs" "$root/examples" "$here/README.Debian" "$doc"
 gzip -9n <"$root/CHANGELOG.md" >"$doc/changelog.gz"
 {
     echo 'Format: https://www.debian.org/doc/packaging-manuals/copyright-format/1.0/'
@@ -40,10 +42,13 @@ gzip -9n <"$root/CHANGELOG.md" >"$doc/changelog.gz"
 # shellcheck disable=SC2016
 for unit in whx12.service whx12-backup.service whx12-backup.timer; do
     sed -e '/^#/d' -e 's|/usr/local/|/usr/|g' -e 's|harbor\.book|warehouse.book|g' -e 's| ZZ-HARBOR||' \
-        -e 's|^After=network.target|&\nConditionPathExists=/var/lib/whx12/warehouse.book|' \
+        -e 's|^Description=.* of the warehouse$|&\n@CONDITION@|' \
         -e 's|^\(ExecStart=/usr/bin/whx12 .*\)|EnvironmentFile=-/etc/default/whx12\n\1 $WHX12_OPTIONS|' \
         "$root/examples/service/$unit" | sed '/./,$!d' >"$units/$unit"
 done
+# Without a book there is nothing to serve or to copy.
+sed -i 's|^@CONDITION@$|ConditionPathExists=/var/lib/whx12/warehouse.book|' "$units/whx12.service" "$units/whx12-backup.service"
+sed -i '/^@CONDITION@$/d' "$units/whx12-backup.timer"
 
 # What its help says, for man and for bash.
 commands=$("$program" --help | sed -n 's/^  \([a-z][a-z]*\)  .*/\1/p' | grep -vx help | tr '\n' ' ' | sed 's/ $//')
@@ -58,7 +63,7 @@ as_roff() { sed -e 's/\\/\\e/g' -e "s/^[.']/\\\\\&&/" -e 's/-/\\-/g'; }
         "$program" help "$command" | as_roff
         printf '.fi\n'
     done
-    as_roff <"$here/page.txt" | sed 's/^\\&\.SH/.SH/'
+    cat "$here/page.roff"
 } | gzip -9n >"$package/usr/share/man/man1/whx12.1.gz"
 {
     sed '/^# OPTIONS$/,$d' "$here/completion.bash"
