@@ -32,7 +32,7 @@ RUN = {
 # The most words of each page; those of made parts don't count, nor what stands in comments.
 WORDS = {
     "README.md": 800, "CONTRIBUTING.md": 2200, "CHANGELOG.md": 500, "SECURITY.md": 500, "bench/README.md": 500,
-    "docs/ARCHITECTURE.md": 2400, "docs/DECISIONS.md": 4500, "docs/KIT.md": 600, "docs/OPERATIONS.md": 5800,
+    "docs/ARCHITECTURE.md": 2400, "docs/DECISIONS.md": 4500, "docs/KIT.md": 645, "docs/OPERATIONS.md": 5800,
     "docs/PERFORMANCE.md": 1500, "docs/PLAN.md": 900, "docs/PROFILE.md": 9500, "docs/PROMISES.md": 5040,
     "docs/RULES.md": 3100, "docs/UPGRADING.md": 600,
 }

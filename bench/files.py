@@ -114,8 +114,9 @@ def links(house):
     for link, to in ((os.symlink, house.book), (os.link, kept)):
         for name in ("a.x12.ans", "a.x12.new"):
             what, path = f"{link.__name__} at {name}", house.path(name)
-            if os.path.lexists(path):
-                os.unlink(path)
+            for at in {path, house.path("a.x12.ans")}:
+                if os.path.lexists(at):
+                    os.unlink(at)
             link(os.fsencode(to), path)
             before, copied = house.holds(house.book), house.holds(kept)
             house.take(what, f"a.x12 {told}")
@@ -132,6 +133,20 @@ def links(house):
     os.unlink(house.path("a.x12.ans"))
     house.take("a book with one name again", "a.x12 stored")
     house.is_answered("a book with one name again")
+
+
+def left_alone(house):
+    """An answer that is there already keeps its file; one that goes on after it, or is cut, doesn't."""
+    house.take("first", "a.x12 accepted")
+    path = house.path("a.x12.ans")
+    first = os.lstat(path)
+    house.take("again", "a.x12 stored")
+    again = os.lstat(path)
+    same("the answer's file", (again.st_ino, again.st_mtime_ns, again.st_ctime_ns), (first.st_ino, first.st_mtime_ns, first.st_ctime_ns))
+    for what, text in (("longer", ANSWER + b"\n"), ("cut", ANSWER[:-1]), ("other", b"X" + ANSWER[1:]), ("empty", b"")):
+        house.put("a.x12.ans", text)
+        house.take(what, "a.x12 stored")
+        house.is_answered(what)
 
 
 def left_over(house):
@@ -223,7 +238,7 @@ def words(house):
 
 def main(argv):
     program = program_of(argv[0] if argv else None)
-    cases = [links, left_over, gone, odd_entries, limits, words]
+    cases = [links, left_alone, left_over, gone, odd_entries, limits, words]
     for case in cases:
         with tempfile.TemporaryDirectory(prefix="whx12-files-") as folder:
             case(House(program, folder))

@@ -3,6 +3,7 @@ use borrow.Author.Tests.{ne_eqb, eqb-true}
 use Rattle.std.proofs.Common.{lit<, ◌==◌, ◌≡◌, ℕ, Bool, true, false, length, List, [], ◌∷◌, ◌++◌, Option, Some, None, refl, sym, ap, ◌∙◌, arith}
 use Rattle.std.specs.Prelude.{filter, if◌then◌else◌}
 use Rattle.std.specs.Borrow.{Bor}
+use Rattle.std.specs.List.{FoldsTo}
 use Rattle.std.proofs.lemmas.Fn.{FoldsTo-push}
 use Rattle.std.proofs.lemmas.List.Elements.{All-from_get_or}
 use Rattle.std.proofs.lemmas.List.Splits.{slice_split_first, slice_split_none}
@@ -10,7 +11,7 @@ use Rattle.std.proofs.lemmas.Str.Pattern.{IsSplitOnceResult, split_once_first, s
 use Rattle.profile.specs.Readings.{parts_at}
 use Rattle.std.proofs.Common.{append_assoc}
 use Rattle.store.specs.Standing.{Standing}
-use Rattle.commands.specs.Playing.{asks, rows_left, IsRowDone, IsRowStopped, HasPlayed, HasStopped}
+use Rattle.commands.specs.Playing.{asks, rows_left, IsRowDone, IsRowStopped, HasStopped}
 use Rattle.commands.specs.declared.told.CommandError.{CommandError}
 use Rattle.commands.specs.declared.told.ExitStatus.{ExitStatus}
 
@@ -25,15 +26,14 @@ pub last_row : (text : List ℕ) → IsSplitOnceResult 10 text None → parts_at
 last_row text h = slice_split_none (λ b. b == 10) text
     (All-from_get_or (λ b. (b == 10) ≡ false) text 0 (λ i l. ne_eqb _ 10 (split_parts 10 text None h (lit< tt) i l)))
 
--- what was played of a text so far, and what is left of it
-pub record SoFar {K W : Type 0} (standing : K → Standing) (contents : W → Option (List ℕ)) (p : K × (W × ExitStatus)) (text left : Option (Bor (List ℕ))) (q : K × (W × ExitStatus)) : Type 0 where
+-- what rows of a text came to so far, and what is left of it
+pub record SoFar {P : Type 0} (R : P → List ℕ → P → Type 0) (p : P) (text left : Option (Bor (List ℕ))) (q : P) : Type 0 where
   pub front : List (List ℕ)
   pub are : filter asks (rows_left text) ≡ front ++ filter asks (rows_left left)
-  pub played : HasPlayed standing contents p front q
+  pub played : FoldsTo R p front q
 
-pub nothing_yet : {K W : Type 0} (standing : K → Standing) (contents : W → Option (List ℕ)) (p : K × (W × ExitStatus)) (text : Option (Bor (List ℕ)))
-    → SoFar standing contents p text text p
-nothing_yet standing contents p text = record { front = []; are = refl; played = refl }
+pub nothing_yet : {P : Type 0} (R : P → List ℕ → P → Type 0) (p : P) (text : Option (Bor (List ℕ))) → SoFar R p text text p
+nothing_yet R p text = record { front = []; are = refl; played = refl }
 
 -- a row that isn't empty asks for something
 pub asks_for : (row : List ℕ) → false ≡ (length row == 0) → asks row ≡ true
@@ -47,27 +47,27 @@ is_empty (byte ∷ row) none = absurd (omega (arith, eqb-true (length (byte ∷ 
 asked_first : (row : List ℕ) (rows : List (List ℕ)) → asks row ≡ true → filter asks (row ∷ rows) ≡ row ∷ filter asks rows
 asked_first row rows h = ap (λ (b : Bool). if b then row ∷ filter asks rows else filter asks rows) h
 
-pub over_empty : {K W : Type 0} (standing : K → Standing) (contents : W → Option (List ℕ)) (p q : K × (W × ExitStatus)) (text left next : Option (Bor (List ℕ))) (row : List ℕ)
-    → rows_left left ≡ row ∷ rows_left next → row ≡ [] → SoFar standing contents p text left q → SoFar standing contents p text next q
-over_empty standing contents p q text left next row first empty s = record {
+pub over_empty : {P : Type 0} (R : P → List ℕ → P → Type 0) (p q : P) (text left next : Option (Bor (List ℕ))) (row : List ℕ) → rows_left left ≡ row ∷ rows_left next → row ≡ []
+    → SoFar R p text left q → SoFar R p text next q
+over_empty R p q text left next row first empty s = record {
   front = s.front;
   are = s.are ∙ ap (λ (rows : List (List ℕ)). s.front ++ filter asks rows) first
       ∙ ap (λ (r : List ℕ). s.front ++ filter asks (r ∷ rows_left next)) empty;
   played = s.played;
 }
 
-pub one_more : {K W : Type 0} (standing : K → Standing) (contents : W → Option (List ℕ)) (p q u : K × (W × ExitStatus)) (text left next : Option (Bor (List ℕ))) (row : List ℕ)
-    → rows_left left ≡ row ∷ rows_left next → asks row ≡ true → IsRowDone standing contents q row u → SoFar standing contents p text left q → SoFar standing contents p text next u
-one_more standing contents p q u text left next row first asked done s = record {
+pub one_more : {P : Type 0} (R : P → List ℕ → P → Type 0) (p q u : P) (text left next : Option (Bor (List ℕ))) (row : List ℕ) → rows_left left ≡ row ∷ rows_left next → asks row ≡ true → R q row u
+    → SoFar R p text left q → SoFar R p text next u
+one_more R p q u text left next row first asked done s = record {
   front = s.front ++ row ∷ [];
   are = s.are ∙ ap (λ (rows : List (List ℕ)). s.front ++ filter asks rows) first
       ∙ ap (λ (rows : List (List ℕ)). s.front ++ rows) (asked_first row (rows_left next) asked)
       ∙ sym (append_assoc s.front (row ∷ []) (filter asks (rows_left next)));
-  played = FoldsTo-push (IsRowDone standing contents) p s.front q row u s.played done;
+  played = FoldsTo-push R p s.front q row u s.played done;
 }
 
 pub stopped_at : {K W : Type 0} (standing : K → Standing) (contents : W → Option (List ℕ)) (p q : K × (W × ExitStatus)) (text left next : Option (Bor (List ℕ))) (row : List ℕ) (new : K) (after : W) (stop : CommandError)
-    → rows_left left ≡ row ∷ rows_left next → asks row ≡ true → IsRowStopped standing contents q.0 q.1.0 row new after stop → SoFar standing contents p text left q
+    → rows_left left ≡ row ∷ rows_left next → asks row ≡ true → IsRowStopped standing contents q.0 q.1.0 row new after stop → SoFar (IsRowDone standing contents) p text left q
     → HasStopped standing contents p (filter asks (rows_left text)) new after stop
 stopped_at standing contents p q text left next row new after stop first asked stopped s = record {
   front = s.front;

@@ -1,10 +1,12 @@
 -- Bytes that were printed, or a beginning of them.
-use Rattle.std.proofs.Common.{◌≡◌, ◌∙◌, ℕ, ◌+◌, ◌-◌, ◌<◌, List, [], ◌∷◌, ◌++◌, Option, Result, Ok, Err, OnErr, OnOk, length, take, drop, get_or, flat_map, sym, ap, subst, arith, append-nil, append_assoc, length-drop, take-take, take-append-drop}
+use Rattle.std.proofs.Common.{◌≡◌, ◌∙◌, ℕ, ◌+◌, ◌-◌, ◌<◌, List, [], ◌∷◌, ◌++◌, Option, Some, None, Result, Ok, Err, OnErr, OnOk, length, take, drop, get_or, flat_map, sym, ap, subst, arith, append-nil, append_assoc, length-drop, take-take, take-append-drop}
 use Rattle.std.proofs.lemmas.List.{drop-take, take_more}
 use Rattle.std.proofs.lemmas.Grind.{flat_map-append}
 use Rattle.std.proofs.Math.Seq.{take-length}
 use Rattle.std.proofs.KnownBytes.{Appends-trans, Appends-kept}
 use Rattle.std.specs.Io.KnownBytes.{Appends, Keeps}
+use Rattle.std.specs.declared.io.Error.{Error}
+use Rattle.commands.specs.Failures.{CountsIf, WasRefused}
 use Rattle.commands.specs.Printing.{AppendsFront}
 
 take_two : (bs : List ℕ) (at n : ℕ) → take (at + n) bs ≡ take at bs ++ take n (drop at bs)
@@ -79,3 +81,33 @@ on_err (Err e) p = p
 pub on_ok : {T E : Type 0} {P : Type 0} (r : Result T E) → P → OnOk r P
 on_ok (Ok x) p = p
 on_ok (Err e) p = tt
+
+-- Writes that were counted.
+
+pub quiet_on : (a b c : Option ℕ) (n : ℕ) → b ≡ a → CountsIf {E = Error} (Ok n) b c → 0 < n → c ≡ a
+quiet_on (Some a) (Some b) (Some c) n is counts some = ap Some (counts.1 some) ∙ is
+quiet_on None None None n is counts some = is
+quiet_on (Some a) (Some b) None n is counts some = sym counts ∙ is
+quiet_on (Some a) None c n is counts some = sym counts ∙ is
+quiet_on None (Some b) (Some c) n is counts some = ap Some (counts.1 some) ∙ is
+quiet_on None (Some b) None n is counts some = sym counts ∙ is
+quiet_on None None (Some c) n is counts some = sym counts ∙ is
+
+pub refused_from : (a b c : Option ℕ) → b ≡ a → WasRefused b c → WasRefused a c
+refused_from a b c is h = subst (λ (k : Option ℕ). WasRefused k c) is h
+
+refused_err : (b c : Option ℕ) (e : Error) → CountsIf (Err e) b c → WasRefused b c
+refused_err (Some b) (Some c) e h = h
+refused_err (Some b) None e h = tt
+refused_err None c e h = tt
+
+pub refused_on : (a b c : Option ℕ) (e : Error) → b ≡ a → CountsIf (Err e) b c → WasRefused a c
+refused_on a b c e is h = refused_from a b c is (refused_err b c e h)
+
+refused_none : (b c : Option ℕ) (n : ℕ) → n ≡ 0 → CountsIf {E = Error} (Ok n) b c → WasRefused b c
+refused_none (Some b) (Some c) n none h = h.0 none
+refused_none (Some b) None n none h = tt
+refused_none None c n none h = tt
+
+pub refused_zero : (a b c : Option ℕ) (n : ℕ) → b ≡ a → n ≡ 0 → CountsIf {E = Error} (Ok n) b c → WasRefused a c
+refused_zero a b c n is none h = refused_from a b c is (refused_none b c n none h)

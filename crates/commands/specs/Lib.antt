@@ -4,6 +4,7 @@ pub mod Printing
 pub mod Telling
 pub mod Shown
 pub mod Stops
+pub mod Failures
 pub mod Clerks
 pub mod Acting
 pub mod Readying
@@ -18,4 +19,5 @@ pub mod Clock
 pub mod Serving
 pub mod Reasons
 pub mod Playing
+pub mod Saying
 pub mod Scripts

@@ -8,6 +8,7 @@ ghost use Rattle.store.specs.Runs.{told};
 ghost use Rattle.store.specs.Standing.{GoesOn};
 ghost use Rattle.commands.specs.Acting.{IsHandedIn, IsPerformed, IsSaid, IsSaidOf};
 ghost use Rattle.commands.specs.Clock.{IsMinuteOf};
+ghost use Rattle.commands.specs.Failures.{HasFailedCall, IsDeviceBy, WasEitherRefused};
 ghost use Rattle.commands.specs.Printing.{AppendsFront};
 ghost use Rattle.commands.specs.Readying.{IsMadeReady, IsUnready};
 ghost use Rattle.commands.specs.Stops.{HasDeviceFault, IsDeviceStop, IsUsageStop};
@@ -16,6 +17,7 @@ ghost use Rattle.commands.specs.Telling.{IsPrinted, printed_of, said_of};
 use crate::causes::about_file;
 use crate::clock::{TimeSource, moment_for};
 use crate::enrolments::{enrol_all, read_roster};
+use crate::printing::Printer;
 use crate::slips::{Slip, clerk, slip_of};
 use crate::takes::take;
 use crate::takes_into::{Inbox, take_away};
@@ -110,7 +112,7 @@ pub fn ready_at<'a, R: FileSystem + TimeSource + AllocGlobal>(
 
 // Prints the text of a reply, and tells a refusal.
 #[tactic(auto, using(crate::proofs::TellingLaws::all_begun, crate::proofs::TellingLaws::appends_nothing))]
-fn tell_reply<W: io::Write, E: io::Write>(
+fn tell_reply<W: Printer, E: Printer>(
     alloc: Global,
     reply: &Reply,
     out: &mut W,
@@ -123,6 +125,8 @@ fn tell_reply<W: io::Write, E: io::Write>(
     ensures said { OnOk result
         (Appends (E.contents err.old) (E.contents err.new) (said_of (told reply.now))) }
     ensures halted { IfErr result IsDeviceStop }
+    ensures caused { IfErr result (IsDeviceBy (WasEitherRefused (W.failures out.old)
+        (W.failures out.new) (E.failures err.old) (E.failures err.new))) }
 {
     match reply {
         Reply::Accepted(text) => tell_text(out, text)?,
@@ -137,7 +141,7 @@ fn tell_reply<W: io::Write, E: io::Write>(
 
 // Submits a command, prints the text of its reply, a refused one's too, and tells a refusal.
 #[tactic(auto, using(crate::proofs::TellingLaws::appends_nothing))]
-fn hand_in<K: Keeper, W: io::Write, E: io::Write>(
+fn hand_in<K: Keeper, W: Printer, E: Printer>(
     alloc: Global,
     book: &mut K,
     command: &Command<'_>,
@@ -151,6 +155,8 @@ fn hand_in<K: Keeper, W: io::Write, E: io::Write>(
         moment (W.contents out.old) (W.contents out.new) result }
     ensures said { IsSaid (K.standing book.old) (K.standing book.new) (asked command.now) moment
         (E.contents err.old) (E.contents err.new) result }
+    ensures caused { IfErr result (IsDeviceBy (WasEitherRefused (W.failures out.old)
+        (W.failures out.new) (E.failures err.old) (E.failures err.new))) }
     ensures goes { GoesOn (K.standing book.old) (K.standing book.new) }
 {
     let reply = submit(alloc, book, command, moment)?;
@@ -158,7 +164,7 @@ fn hand_in<K: Keeper, W: io::Write, E: io::Write>(
 }
 
 // Enrols a depositor.
-fn enrol<K: Keeper, W: io::Write, E: io::Write>(
+fn enrol<K: Keeper, W: Printer, E: Printer>(
     alloc: Global,
     book: &mut K,
     who: Who,
@@ -170,6 +176,8 @@ fn enrol<K: Keeper, W: io::Write, E: io::Write>(
         (W.contents out.old) (W.contents out.new) result }
     ensures said { IsSaid (K.standing book.old) (K.standing book.new) (Enrolment who) moment
         (E.contents err.old) (E.contents err.new) result }
+    ensures caused { IfErr result (IsDeviceBy (WasEitherRefused (W.failures out.old)
+        (W.failures out.new) (E.failures err.old) (E.failures err.new))) }
     ensures goes { GoesOn (K.standing book.old) (K.standing book.new) }
 {
     hand_in(alloc, book, &Command::Enrol(who), moment, out, err)
@@ -177,7 +185,7 @@ fn enrol<K: Keeper, W: io::Write, E: io::Write>(
 
 /// Does to a book what was made ready, prints what comes of it, and tells a refusal on standard
 /// error, and as much more as is asked for.
-pub fn perform<R: FileSystem + AllocGlobal + Clone + Drop, K: Keeper, W: io::Write, E: io::Write>(
+pub fn perform<R: FileSystem + AllocGlobal + Clone + Drop, K: Keeper, W: Printer, E: Printer>(
     rt: &R,
     book: &mut K,
     ready: &Ready<'_>,
@@ -190,6 +198,9 @@ pub fn perform<R: FileSystem + AllocGlobal + Clone + Drop, K: Keeper, W: io::Wri
         (W.contents out.old) (W.contents out.new) result }
     ensures said { IsSaidOf (K.standing book.old) (K.standing book.new) ready.now moment
         (E.contents err.old) (E.contents err.new) result }
+    ensures caused { IfErr result (IsDeviceBy (WasEitherRefused (W.failures out.old)
+        (W.failures out.new) (E.failures err.old) (E.failures err.new)
+        ⊎ HasFailedCall (R.fails rt.now))) }
     ensures goes { GoesOn (K.standing book.old) (K.standing book.new) }
 {
     let alloc = rt.alloc();

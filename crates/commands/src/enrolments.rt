@@ -7,23 +7,23 @@ ghost use Rattle.profile.specs.Register.{Enrol};
 ghost use Rattle.store.specs.Runs.{told};
 ghost use Rattle.store.specs.Standing.{IsUsable, KeepsLegal, GoesOn, LeavesEither, OfKept, OfUsable};
 ghost use Rattle.commands.specs.Enrolling.{AreEnrolled, AreEnrolledUntil, line_of};
+ghost use Rattle.commands.specs.Failures.{IsDeviceBy, WasRefused};
 ghost use Rattle.commands.specs.Printing.{AppendsFront};
 ghost use Rattle.commands.specs.Readying.{IsNoRoster, IsRosterIn};
 ghost use Rattle.commands.specs.Stops.{HasDeviceFault, IsDeviceStop, IsStopped};
 ghost use Rattle.commands.specs.Telling.{status_of};
 
 use crate::files::{MOST_ROSTER, read_within};
-use crate::printing::print_pieces;
+use crate::printing::{Printer, print_pieces};
 use crate::told::{CommandError, ExitStatus};
 use command_line::depositors;
 use folders::FileSystem;
 use itoa::Buffer;
 use std::alloc::Global;
-use std::io;
 use store::{Command, Keeper, Moment, Reply, Who, submit};
 
 // Prints what became of a depositor, as `ZZ-ACME enrolled`.
-fn tell_enrolment<W: io::Write>(
+fn tell_enrolment<W: Printer>(
     out: &mut W,
     who: &Who,
     reply: &Reply,
@@ -35,6 +35,9 @@ fn tell_enrolment<W: io::Write>(
         (AppendsFront (W.contents out.old) (W.contents out.new) (line_of who.now
         (told reply.now))) }
     ensures halted { IfErr result IsDeviceStop }
+    ensures quiet { OnOk result (W.failures out.new ≡ W.failures out.old) }
+    ensures caused { IfErr result (IsDeviceBy
+        (WasRefused (W.failures out.old) (W.failures out.new))) }
 {
     match reply {
         Reply::Refused { refusal, .. } => {
@@ -52,7 +55,7 @@ fn tell_enrolment<W: io::Write>(
 
 // Enrols a depositor and prints what became of it.
 #[tactic(auto, using(crate::proofs::TellingLaws::appends_nothing))]
-fn enrol_one<K: Keeper, W: io::Write>(
+fn enrol_one<K: Keeper, W: Printer>(
     alloc: Global,
     book: &mut K,
     who: Who,
@@ -78,6 +81,9 @@ fn enrol_one<K: Keeper, W: io::Write>(
     ensures stopped { IfErr result
         (IsStopped (K.standing book.old) (K.standing book.new) (Enrol who) moment (line_of who)
         (W.contents out.old) (W.contents out.new)) }
+    ensures quiet { OnOk result (W.failures out.new ≡ W.failures out.old) }
+    ensures caused { IfErr result (IsDeviceBy
+        (WasRefused (W.failures out.old) (W.failures out.new))) }
     ensures goes { GoesOn (K.standing book.old) (K.standing book.new) }
 {
     let reply = submit(alloc, book, &Command::Enrol(who), moment)?;
@@ -86,7 +92,7 @@ fn enrol_one<K: Keeper, W: io::Write>(
 
 /// Enrols depositors in order, and prints a line for each. The status is 1 where one of them was
 /// refused.
-pub fn enrol_all<K: Keeper, W: io::Write>(
+pub fn enrol_all<K: Keeper, W: Printer>(
     alloc: Global,
     book: &mut K,
     partners: &[Who],
@@ -99,6 +105,8 @@ pub fn enrol_all<K: Keeper, W: io::Write>(
     ensures stopped { IfErr result
         (AreEnrolledUntil (K.standing book.old) (K.standing book.new) partners.now moment
         (W.contents out.old) (W.contents out.new)) }
+    ensures caused { IfErr result (IsDeviceBy
+        (WasRefused (W.failures out.old) (W.failures out.new))) }
     ensures goes { GoesOn (K.standing book.old) (K.standing book.new) }
 {
     let mut status = ExitStatus::Done;

@@ -7,6 +7,7 @@ ghost use Rattle.commands.specs.HandingOn.{AreLeft, IsRowLeft, LeavesAll};
 ghost use Rattle.commands.specs.Stops.{HasDeviceFault};
 
 use crate::causes::about_document;
+use crate::printing::Printer;
 use crate::told::{CommandError, ExitStatus, tell_refusal};
 use folders::{DocumentLeft, FileSystem, leave_document};
 use std::io;
@@ -91,7 +92,7 @@ fn leave_rows<R: FileSystem + AllocGlobal, W: io::Write, E: io::Write>(
 /// there yet, and prints which were written. One whose file has the name N.x12.sent was sent; one
 /// whose file has other bytes is left as it is, and told on standard error, with status 1. Refused
 /// is 20, an unknown depositor. The book is as before.
-pub fn hand_on<R: FileSystem + AllocGlobal, K: Keeper, W: io::Write, E: io::Write>(
+pub fn hand_on<R: FileSystem + AllocGlobal, K: Keeper, W: io::Write, E: Printer>(
     rt: &R,
     book: &mut K,
     who: Who,

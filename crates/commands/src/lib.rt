@@ -32,6 +32,7 @@ pub use clock::{TimeSource, moment_for};
 pub use command_line::Service;
 pub use files::read_lines;
 pub use handing_on::{hand_on, tell_left};
+pub use printing::{Printer, print};
 pub use reasons::{KeptPair, reason, tell_cause, tell_reason, tell_unready};
 pub use script::{play_over, run_script};
 pub use sealing::tell_seal;

@@ -6,11 +6,13 @@ ghost use Rattle.profile.specs.declared.rules.Rules.TheVariants.{Two};
 ghost use Rattle.profile.specs.Means.{Line};
 ghost use Rattle.sheet_texts.specs.Texts.{sheet_of_text};
 ghost use Rattle.store.specs.Standing.{IsUnchanged};
+ghost use Rattle.commands.specs.Failures.{IsDeviceBy, WasRefused};
 ghost use Rattle.commands.specs.Reasons as meant;
 ghost use Rattle.commands.specs.Stops.{IsReasonStopped};
 ghost use Rattle.commands.specs.Telling.{refused_line};
 
 use crate::causes::{about_line, at_line};
+use crate::printing::Printer;
 use crate::slips::{Slip, clerk, lines_in};
 use crate::told::{CommandError, ExitStatus, tell_refusal};
 use crate::verbosity::Verbosity;
@@ -306,7 +308,7 @@ pub fn tell_cause<E: io::Write>(err: &mut E, cause: &str) -> io::Result<()>
 
 /// Tells why a line's words or files are refused (30 to 33), and where it is asked for which of
 /// them it is. What can't be told of that is left out: the refusal stands.
-pub fn tell_unready<R: FileSystem + AllocGlobal, E: io::Write>(
+pub fn tell_unready<R: FileSystem + AllocGlobal, E: Printer>(
     rt: &R,
     task: &Task<'_>,
     refusal: Refusal,
@@ -316,6 +318,8 @@ pub fn tell_unready<R: FileSystem + AllocGlobal, E: io::Write>(
     ensures says { IfOk result (λ status. status ≡ ExitStatus.Refused) }
     ensures quiet { verbosity.explains ≡ false
         → OnOk result (Appends (E.contents err.old) (E.contents err.new) (refused_line refusal)) }
+    ensures caused { IfErr result (IsDeviceBy
+        (WasRefused (E.failures err.old) (E.failures err.new))) }
 {
     let status = tell_refusal(rt.alloc(), err, refusal)?;
     if verbosity.explains {

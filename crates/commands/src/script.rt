@@ -1,15 +1,17 @@
-ghost use Rattle.std.specs.Prelude.{◌≡◌, [], ◌∷◌, ℕ, List, MatchOption, Ok, IfOk, IfErr, filter, map};
+ghost use Rattle.std.specs.Prelude.{◌≡◌, [], ◌∷◌, ℕ, false, List, MatchOption, Ok, IfOk, IfErr, OnOk, filter, map};
 ghost use Rattle.profile.specs.Readings.{parts_at};
 ghost use Rattle.store.specs.Standing.{GoesOn, IsUnchanged};
 ghost use Rattle.commands.specs.Files.{IsWithin};
 ghost use Rattle.commands.specs.Looking.{IsLineDone, IsView};
 ghost use Rattle.commands.specs.Playing.{asks, asking, rows_left, IsRowAnswered, IsRowStopped, HasPlayed, HasStopped};
 ghost use Rattle.commands.specs.Readying.{IsChange};
+ghost use Rattle.commands.specs.Saying.{AreRowsSaid, IsLineSaid, IsRowSaid, IsTaskSaid};
 ghost use Rattle.commands.specs.Scripts.{CanMakeBook, IsMadeBy, IsScriptDone, IsScriptStopped, IsUnnamed};
 
 use crate::acts::{perform, ready_at};
 use crate::clock::TimeSource;
 use crate::files::{MOST_SCRIPT, read_lines};
+use crate::printing::Printer;
 use crate::reasons::{tell_reason, tell_unready};
 use crate::shows::{ask, show};
 use crate::slips::slip_of;
@@ -25,8 +27,8 @@ use store::{Fault, Keeper, Moment, Refusal, ReplayBook, Warehouse, Who};
 fn change<
     R: FileSystem + TimeSource + AllocGlobal + Clone + Drop,
     K: Keeper,
-    W: io::Write,
-    E: io::Write,
+    W: Printer,
+    E: Printer,
 >(
     rt: &R,
     book: &mut K,
@@ -39,6 +41,9 @@ fn change<
 ) -> Result<ExitStatus, CommandError>
     ensures changed { IsChange (K.standing book.old) (K.standing book.new) act.now at
         (W.contents out.old) (W.contents out.new) result }
+    ensures said { verbosity.explains ≡ false → OnOk result (IsTaskSaid (R.reads rt.now)
+        (K.standing book.old) (K.standing book.new) (E.contents err.old) (E.contents err.new)
+        result (Task.Act act.now at)) }
     ensures goes { GoesOn (K.standing book.old) (K.standing book.new) }
 {
     match ready_at(rt, act, at)? {
@@ -48,7 +53,7 @@ fn change<
 }
 
 // Shows of the book what a line asks for.
-fn look<R: FileSystem + AllocGlobal, K: Keeper, W: io::Write, E: io::Write>(
+fn look<R: FileSystem + AllocGlobal, K: Keeper, W: Printer, E: Printer>(
     rt: &R,
     book: &mut K,
     task: &Task<'_>,
@@ -59,6 +64,9 @@ fn look<R: FileSystem + AllocGlobal, K: Keeper, W: io::Write, E: io::Write>(
 ) -> Result<ExitStatus, CommandError>
     ensures viewed { IsView (K.standing book.old) (K.standing book.new) what.now
         (W.contents out.old) (W.contents out.new) result }
+    ensures said { verbosity.explains ≡ false → OnOk result (IsTaskSaid (R.reads rt.now)
+        (K.standing book.old) (K.standing book.new) (E.contents err.old) (E.contents err.new)
+        result (Task.Show what.now)) }
     ensures goes { GoesOn (K.standing book.old) (K.standing book.new) }
 {
     match ask(what) {
@@ -71,8 +79,8 @@ fn look<R: FileSystem + AllocGlobal, K: Keeper, W: io::Write, E: io::Write>(
 fn answer<
     R: FileSystem + TimeSource + AllocGlobal + Clone + Drop,
     K: Keeper,
-    W: io::Write,
-    E: io::Write,
+    W: Printer,
+    E: Printer,
 >(
     rt: &R,
     book: &mut K,
@@ -83,6 +91,9 @@ fn answer<
 ) -> Result<ExitStatus, CommandError>
     ensures answered { IsLineDone (K.standing book.old) (K.standing book.new) words.now
         (W.contents out.old) (W.contents out.new) result }
+    ensures said { verbosity.explains ≡ false → IsLineSaid (R.reads rt.now)
+        (K.standing book.old) (K.standing book.new) (E.contents err.old) (E.contents err.new)
+        result words.now }
     ensures goes { GoesOn (K.standing book.old) (K.standing book.new) }
 {
     let Words::Over { task, .. } = words else {
@@ -136,8 +147,8 @@ fn words_of<'a>(alloc: Global, row: &'a str) -> Result<Vec<&'a str>, AllocError>
 fn answer_row<
     R: FileSystem + TimeSource + AllocGlobal + Clone + Drop,
     K: Keeper,
-    W: io::Write,
-    E: io::Write,
+    W: Printer,
+    E: Printer,
 >(
     rt: &R,
     book: &mut K,
@@ -151,6 +162,8 @@ fn answer_row<
     ensures stopped { IfErr result
         (λ stop. IsRowStopped K.standing W.contents book.old out.old row.now
         book.new out.new stop) }
+    ensures said { verbosity.explains ≡ false → OnOk result (IsRowSaid (R.reads rt.now) K.standing
+        (book.old, E.contents err.old) row.now (book.new, E.contents err.new)) }
     ensures goes { GoesOn (K.standing book.old) (K.standing book.new) }
 {
     let words = words_of(rt.alloc(), row)?;
@@ -175,7 +188,9 @@ fn tell_refused_line<E: io::Write>(
     status: ExitStatus,
     line: usize,
     verbosity: Verbosity,
-) {
+)
+    ensures quiet { verbosity.explains ≡ false → E.contents err.new ≡ E.contents err.old }
+{
     if verbosity.explains && status == ExitStatus::Refused {
         tell_line(err, "refused", line);
     }
@@ -203,8 +218,8 @@ fn first_row(text: &str) -> (&str, Option<&str>)
 fn play_from<
     R: FileSystem + TimeSource + AllocGlobal + Clone + Drop,
     K: Keeper,
-    W: io::Write,
-    E: io::Write,
+    W: Printer,
+    E: Printer,
 >(
     rt: &R,
     book: &mut K,
@@ -221,6 +236,9 @@ fn play_from<
     ensures stopped { IfErr result (λ stop. HasStopped K.standing W.contents
         (book.old, (out.old, ExitStatus.Done)) (filter asks (rows_left text.entry)) book.new out.new
         stop) }
+    ensures said { verbosity.explains ≡ false → OnOk result (AreRowsSaid (R.reads rt.now)
+        K.standing (book.old, E.contents err.old) (filter asks (rows_left text.entry))
+        (book.new, E.contents err.new)) }
     ensures goes { GoesOn (K.standing book.old) (K.standing book.new) }
 {
     let mut status = ExitStatus::Done;
@@ -253,8 +271,8 @@ fn play_from<
 pub fn play_over<
     R: FileSystem + TimeSource + AllocGlobal + Clone + Drop,
     K: Keeper,
-    W: io::Write,
-    E: io::Write,
+    W: Printer,
+    E: Printer,
 >(
     rt: &R,
     book: &mut K,
@@ -267,6 +285,9 @@ pub fn play_over<
         (book.old, (out.old, ExitStatus.Done)) (asking text.now) (book.new, (out.new, status))) }
     ensures stopped { IfErr result (λ stop. HasStopped K.standing W.contents
         (book.old, (out.old, ExitStatus.Done)) (asking text.now) book.new out.new stop) }
+    ensures said { verbosity.explains ≡ false → OnOk result (AreRowsSaid (R.reads rt.now)
+        K.standing (book.old, E.contents err.old) (asking text.now)
+        (book.new, E.contents err.new)) }
     ensures goes { GoesOn (K.standing book.old) (K.standing book.new) }
 {
     play_from(rt, book, Some(text), 0, true, verbosity, out, err)
@@ -278,7 +299,7 @@ fn no_line(alloc: Global) -> CommandError {
 }
 
 // The book that the first row makes; None where its name is refused.
-fn made<R: FileSystem + AllocGlobal, E: io::Write>(
+fn made<R: FileSystem + AllocGlobal, E: Printer>(
     rt: &R,
     row: &str,
     verbosity: Verbosity,
@@ -327,7 +348,7 @@ fn opening_row(text: &str) -> Option<(usize, &str, Option<&str>)>
 // Plays the lines of a script, the first of which makes the book. A refusal goes on, but of that
 // line; anything else that isn't done stops it. The number of such a line is told where it is asked
 // for.
-fn play<R: FileSystem + TimeSource + AllocGlobal + Clone + Drop, W: io::Write, E: io::Write>(
+fn play<R: FileSystem + TimeSource + AllocGlobal + Clone + Drop, W: Printer, E: Printer>(
     rt: &R,
     text: &str,
     verbosity: Verbosity,
@@ -362,11 +383,7 @@ fn play<R: FileSystem + TimeSource + AllocGlobal + Clone + Drop, W: io::Write, E
 /// Runs the script in a file over a new book in memory. A script that can't be read as words is a
 /// usage fault; what was printed before it, or before a fault, stays. Where it is asked for, the
 /// number of each line that is refused or stops it is told.
-pub fn run_script<
-    R: FileSystem + TimeSource + AllocGlobal + Clone + Drop,
-    W: io::Write,
-    E: io::Write,
->(
+pub fn run_script<R: FileSystem + TimeSource + AllocGlobal + Clone + Drop, W: Printer, E: Printer>(
     rt: &R,
     file: &str,
     verbosity: Verbosity,

@@ -7,18 +7,18 @@ ghost use Rattle.profile.specs.Rows.{stock_of, outbox_of};
 ghost use Rattle.store.specs.Open.{open_of, enrolled};
 ghost use Rattle.store.specs.Sent.{text_of};
 ghost use Rattle.commands.specs.Looking.{IsAskedFor, IsLook, asked_for, is_readable};
+ghost use Rattle.commands.specs.Failures.{IsDeviceBy, WasEitherRefused, WasRefused};
 ghost use Rattle.commands.specs.Printing.{AppendsFront};
 ghost use Rattle.commands.specs.Refused.{IsLookSaid, IsWhySaid, refused_order, refused_stranger};
 ghost use Rattle.commands.specs.Stops.{IsDeviceStop};
 ghost use Rattle.commands.specs.Shown.{IsLookAt, IsShown, shown_stock, shown_open, shown_list, shown_text, shown_order, shown_depositors};
 
-use crate::printing::print;
+use crate::printing::{Printer, print};
 use crate::told::{CommandError, ExitStatus, tell_refusal, tell_text};
 use command_line::Show;
 use intake::owner;
 use reports::{depositor_list, open_report, outbox_list, pick_list, stock_text};
 use std::alloc::Global;
-use std::io;
 use store::{Keeper, Need, Refusal, Who};
 
 /// What is to be shown, its words tested.
@@ -74,7 +74,7 @@ pub fn ask<'a>(show: &Show<'a>) -> Result<Look<'a>, Refusal>
 // Prints what a depositor has: the stock report, or its export as CSV. Refused is 20, an unknown
 // depositor.
 #[tactic(auto, using(crate::proofs::TellingLaws::appends_nothing))]
-fn stock<K: Keeper, W: io::Write, E: io::Write>(
+fn stock<K: Keeper, W: Printer, E: Printer>(
     alloc: Global,
     book: &mut K,
     who: Who,
@@ -88,6 +88,8 @@ fn stock<K: Keeper, W: io::Write, E: io::Write>(
     ensures said { IsWhySaid (K.standing book.old) (K.standing book.new)
         (λ L. refused_stranger (stock_of L who))
         (E.contents err.old) (E.contents err.new) result }
+    ensures caused { IfErr result (IsDeviceBy (WasEitherRefused (W.failures out.old)
+        (W.failures out.new) (E.failures err.old) (E.failures err.new))) }
 {
     match store::stock(book, who)? {
         Some(rows) => {
@@ -100,7 +102,7 @@ fn stock<K: Keeper, W: io::Write, E: io::Write>(
 
 // Prints what a depositor has open. Refused is 20, an unknown depositor.
 #[tactic(auto, using(crate::proofs::TellingLaws::appends_nothing))]
-fn open<K: Keeper, W: io::Write, E: io::Write>(
+fn open<K: Keeper, W: Printer, E: Printer>(
     alloc: Global,
     book: &mut K,
     who: Who,
@@ -113,6 +115,8 @@ fn open<K: Keeper, W: io::Write, E: io::Write>(
     ensures said { IsWhySaid (K.standing book.old) (K.standing book.new)
         (λ L. refused_stranger (open_of L who))
         (E.contents err.old) (E.contents err.new) result }
+    ensures caused { IfErr result (IsDeviceBy (WasEitherRefused (W.failures out.old)
+        (W.failures out.new) (E.failures err.old) (E.failures err.new))) }
 {
     match book.open(who)? {
         Some(page) => {
@@ -126,7 +130,7 @@ fn open<K: Keeper, W: io::Write, E: io::Write>(
 // Prints the picking sheet of an order. Refused are 20, an unknown depositor, 24, an unknown order,
 // and 25, an order that was picked.
 #[tactic(auto, using(crate::proofs::TellingLaws::appends_nothing))]
-fn order<K: Keeper, W: io::Write, E: io::Write>(
+fn order<K: Keeper, W: Printer, E: Printer>(
     alloc: Global,
     book: &mut K,
     who: Who,
@@ -140,6 +144,8 @@ fn order<K: Keeper, W: io::Write, E: io::Write>(
     ensures said { IsWhySaid (K.standing book.old) (K.standing book.new)
         (λ L. refused_order number.now (history_of (own L who)))
         (E.contents err.old) (E.contents err.new) result }
+    ensures caused { IfErr result (IsDeviceBy (WasEitherRefused (W.failures out.old)
+        (W.failures out.new) (E.failures err.old) (E.failures err.new))) }
 {
     let need = Need::order(alloc, number.as_bytes())?;
     let Some(page) = book.load(who, &need)? else {
@@ -156,7 +162,7 @@ fn order<K: Keeper, W: io::Write, E: io::Write>(
 
 // Prints the list of what went out to a depositor. Refused is 20, an unknown depositor.
 #[tactic(auto, using(crate::proofs::TellingLaws::appends_nothing))]
-fn outbox<K: Keeper, W: io::Write, E: io::Write>(
+fn outbox<K: Keeper, W: Printer, E: Printer>(
     alloc: Global,
     book: &mut K,
     who: Who,
@@ -169,6 +175,8 @@ fn outbox<K: Keeper, W: io::Write, E: io::Write>(
     ensures said { IsWhySaid (K.standing book.old) (K.standing book.new)
         (λ L. refused_stranger (outbox_of (K.standing book.old).warehouse L who))
         (E.contents err.old) (E.contents err.new) result }
+    ensures caused { IfErr result (IsDeviceBy (WasEitherRefused (W.failures out.old)
+        (W.failures out.new) (E.failures err.old) (E.failures err.new))) }
 {
     match store::outbox(book, who)? {
         Some(rows) => {
@@ -180,16 +188,15 @@ fn outbox<K: Keeper, W: io::Write, E: io::Write>(
 }
 
 // Prints the text that went out, if one did.
-fn tell_content<W: io::Write>(
-    text: Option<Vec<u8>>,
-    out: &mut W,
-) -> Result<ExitStatus, CommandError>
+fn tell_content<W: Printer>(text: Option<Vec<u8>>, out: &mut W) -> Result<ExitStatus, CommandError>
     ensures shown { IfOk result
         (λ status. IsShown (shown_text (Some (option_map (λ t. t.items) text)))
         (W.contents out.old) (W.contents out.new) status) }
     ensures front { OnErr result (AppendsFront (W.contents out.old) (W.contents out.new)
         (shown_text (Some (option_map (λ t. t.items) text))).0) }
     ensures halted { IfErr result IsDeviceStop }
+    ensures caused { IfErr result (IsDeviceBy
+        (WasRefused (W.failures out.old) (W.failures out.new))) }
 {
     match text {
         Some(text) => {
@@ -203,7 +210,7 @@ fn tell_content<W: io::Write>(
 // Prints the text of a number that went out to a depositor, and LF. Refused is 20, an unknown
 // depositor; where nothing went out under the number nothing is told, and the status says so.
 #[tactic(auto, using(crate::proofs::TellingLaws::appends_nothing))]
-fn content<K: Keeper, W: io::Write, E: io::Write>(
+fn content<K: Keeper, W: Printer, E: Printer>(
     alloc: Global,
     book: &mut K,
     who: Who,
@@ -217,6 +224,8 @@ fn content<K: Keeper, W: io::Write, E: io::Write>(
     ensures said { IsWhySaid (K.standing book.old) (K.standing book.new)
         (λ L. refused_stranger (text_of (K.standing book.old).warehouse L who number))
         (E.contents err.old) (E.contents err.new) result }
+    ensures caused { IfErr result (IsDeviceBy (WasEitherRefused (W.failures out.old)
+        (W.failures out.new) (E.failures err.old) (E.failures err.new))) }
 {
     match store::text(book, who, number)? {
         Some(text) => tell_content(text, out),
@@ -226,7 +235,7 @@ fn content<K: Keeper, W: io::Write, E: io::Write>(
 
 // Prints who is enrolled.
 #[tactic(auto, using(crate::proofs::TellingLaws::appends_nothing))]
-fn depositors<K: Keeper, W: io::Write>(
+fn depositors<K: Keeper, W: Printer>(
     alloc: Global,
     book: &mut K,
     out: &mut W,
@@ -234,6 +243,8 @@ fn depositors<K: Keeper, W: io::Write>(
     ensures looked { IsLookAt (K.standing book.old) (K.standing book.new)
         (λ L. shown_depositors (enrolled L))
         (W.contents out.old) (W.contents out.new) result }
+    ensures caused { IfErr result (IsDeviceBy
+        (WasRefused (W.failures out.old) (W.failures out.new))) }
 {
     let whos = book.depositors()?;
     print(out, &depositor_list(alloc, &whos)?)?;
@@ -243,7 +254,7 @@ fn depositors<K: Keeper, W: io::Write>(
 /// Shows of a book what is asked for. Refused are 20, an unknown depositor, and of a picking sheet
 /// 24, an unknown order, and 25, one that was picked; a number without a text is told by the status
 /// alone.
-pub fn show<K: Keeper, W: io::Write, E: io::Write>(
+pub fn show<K: Keeper, W: Printer, E: Printer>(
     alloc: Global,
     book: &mut K,
     asked: &Look<'_>,
@@ -254,6 +265,8 @@ pub fn show<K: Keeper, W: io::Write, E: io::Write>(
         (W.contents out.old) (W.contents out.new) result }
     ensures said { IsLookSaid (K.standing book.old) (K.standing book.new) asked.now
         (E.contents err.old) (E.contents err.new) result }
+    ensures caused { IfErr result (IsDeviceBy (WasEitherRefused (W.failures out.old)
+        (W.failures out.new) (E.failures err.old) (E.failures err.new))) }
 {
     match *asked {
         Look::Stock(who, is_csv) => stock(alloc, book, who, is_csv, out, err),

@@ -6,19 +6,20 @@ ghost use Rattle.folders.specs.Handed.{IsHanded, IsText};
 ghost use Rattle.folders.specs.Lines.{passed_line};
 ghost use Rattle.folders.specs.Paths.{file_path};
 ghost use Rattle.store.specs.Standing.{GoesOn};
+ghost use Rattle.commands.specs.Failures.{HasFailedCall, IsDeviceBy, WasEitherRefused, WasRefused};
 ghost use Rattle.commands.specs.Printing.{AppendsFront};
 ghost use Rattle.commands.specs.Stops.{IsDeviceStop};
 ghost use Rattle.commands.specs.TakenFiles.{AreListedTaken, AreListedUntold, IsStoppedAmong, IsUnbegun};
 ghost use Rattle.commands.specs.Takes as meant;
 
 use crate::causes::about_stop;
-use crate::printing::print;
+use crate::printing::{Printer, print};
 use crate::told::{CommandError, ExitStatus};
 use crate::verbosity::Verbosity;
 use folders::FileSystem;
 use intake::{FileOutcome, PassedOver, Taken, WhyPassed, take_folder_telling};
 use std::io;
-use store::{Keeper, Moment};
+use store::{Fault, Keeper, Moment};
 
 // The status of a file that was taken.
 fn status_of(outcome: FileOutcome) -> ExitStatus
@@ -36,25 +37,27 @@ fn status_of(outcome: FileOutcome) -> ExitStatus
 pub(crate) const MOST_LINE: usize = 1_100;
 
 // Prints what became of a file.
-fn tell_file<W: io::Write>(
-    out: &mut W,
-    file: &Taken,
-    room: &mut Vec<u8>,
-) -> Result<(), CommandError>
+fn tell_file<W: Printer>(out: &mut W, file: &Taken, room: &mut Vec<u8>) -> Result<(), CommandError>
     ensures printed { OnOk result
         (Appends (W.contents out.old) (W.contents out.new) (meant.line_in file.now)) }
     ensures front { OnErr result
         (AppendsFront (W.contents out.old) (W.contents out.new) (meant.line_in file.now)) }
     ensures halted { IfErr result IsDeviceStop }
+    ensures quiet { OnOk result (W.failures out.new ≡ W.failures out.old) }
+    ensures caused { IfErr result (IsDeviceBy
+        (WasRefused (W.failures out.old) (W.failures out.new))) }
 {
     room.clear();
-    file.write_line(room)?;
+    // A vector refuses bytes for want of memory alone.
+    if file.write_line(room).is_err() {
+        return Err(CommandError::Fault(Fault::OutOfMemory));
+    }
     print(out, room)?;
     Ok(())
 }
 
 /// Prints what became of files. Each line is made in `room` first, of which little is wanted.
-pub(crate) fn tell_taken<W: io::Write>(
+pub(crate) fn tell_taken<W: Printer>(
     out: &mut W,
     files: &[Taken],
     room: &mut Vec<u8>,
@@ -67,6 +70,9 @@ pub(crate) fn tell_taken<W: io::Write>(
         (AppendsFront (W.contents out.old) (W.contents out.new) (flat_map meant.line_in
         files.now)) }
     ensures halted { IfErr result IsDeviceStop }
+    ensures quiet { OnOk result (W.failures out.new ≡ W.failures out.old) }
+    ensures caused { IfErr result (IsDeviceBy
+        (WasRefused (W.failures out.old) (W.failures out.new))) }
 {
     let mut status = ExitStatus::Done;
     for file in files {
@@ -134,7 +140,7 @@ pub(crate) fn tell_passed<E: io::Write>(
 /// be taken because of its name is told on standard error, and where it is asked for all that is
 /// passed over, and how far the taking is. The status is 1 where a file was refused, or passed over
 /// because its name is too long.
-pub fn take<R: FileSystem + AllocGlobal + Clone + Drop, K: Keeper, W: io::Write, E: io::Write>(
+pub fn take<R: FileSystem + AllocGlobal + Clone + Drop, K: Keeper, W: Printer, E: Printer>(
     rt: &R,
     book: &mut K,
     dir: &str,
@@ -160,6 +166,9 @@ pub fn take<R: FileSystem + AllocGlobal + Clone + Drop, K: Keeper, W: io::Write,
         (K.standing book.new) moment (W.contents out.old) (W.contents out.new) stop
         ⊎ IsUnbegun (K.standing book.old) (K.standing book.new) stop)) }
 
+    ensures caused { IfErr result (IsDeviceBy (WasEitherRefused (W.failures out.old)
+        (W.failures out.new) (E.failures err.old) (E.failures err.new)
+        ⊎ HasFailedCall (R.fails rt.now))) }
     ensures goes { GoesOn (K.standing book.old) (K.standing book.new) }
 {
     let mut room = Vec::with_capacity(rt.alloc(), MOST_LINE)?;

@@ -4,10 +4,12 @@ ghost use Rattle.folders.specs.Handed.{IsHanded, IsText};
 ghost use Rattle.folders.specs.Naming.{taking_path};
 ghost use Rattle.folders.specs.Paths.{file_path};
 ghost use Rattle.store.specs.Standing.{GoesOn};
+ghost use Rattle.commands.specs.Failures.{HasFailedCall, IsDeviceBy, WasEitherRefused};
 ghost use Rattle.commands.specs.TakenFiles.{AreListedTaken, AreListedUntold, IsStoppedMoving, IsUnbegun};
 ghost use Rattle.commands.specs.TakesInto as meant;
 
 use crate::causes::about_into_stop;
+use crate::printing::Printer;
 use crate::takes::{MOST_LINE, leaves_any, tell_passed, tell_taken};
 use crate::told::{CommandError, ExitStatus};
 use crate::verbosity::Verbosity;
@@ -107,7 +109,7 @@ fn with_held(status: ExitStatus, into: &TakenInto) -> ExitStatus
 /// what became of each, as `take` does. What stays is told on standard error, and the status is 1
 /// then. At a fault nothing is printed; what was moved stays in the folder `taking` of the other,
 /// and the next run takes it.
-pub fn take_away<R: FileSystem + AllocGlobal + Clone + Drop, K: Keeper, W: io::Write, E: io::Write>(
+pub fn take_away<R: FileSystem + AllocGlobal + Clone + Drop, K: Keeper, W: Printer, E: Printer>(
     rt: &R,
     book: &mut K,
     inbox: &Inbox<'_>,
@@ -136,6 +138,9 @@ pub fn take_away<R: FileSystem + AllocGlobal + Clone + Drop, K: Keeper, W: io::W
         (K.standing book.old) (K.standing book.new) moment (W.contents out.old)
         (W.contents out.new) stop ⊎ IsUnbegun (K.standing book.old) (K.standing book.new) stop)) }
 
+    ensures caused { IfErr result (IsDeviceBy (WasEitherRefused (W.failures out.old)
+        (W.failures out.new) (E.failures err.old) (E.failures err.new)
+        ⊎ HasFailedCall (R.fails rt.now))) }
     ensures goes { GoesOn (K.standing book.old) (K.standing book.new) }
 {
     let mut room = Vec::with_capacity(rt.alloc(), MOST_LINE)?;

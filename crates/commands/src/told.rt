@@ -1,12 +1,14 @@
 ghost use Rattle.std.specs.Prelude.{◌≡◌, IfErr, IfOk, OnErr, OnOk};
 ghost use Rattle.std.specs.Io.KnownBytes.{Appends};
+ghost use Rattle.commands.specs.Failures.{IsDeviceBy, WasRefused};
 ghost use Rattle.commands.specs.Printing.{AppendsFront};
 ghost use Rattle.commands.specs.Statuses as meant;
 ghost use Rattle.commands.specs.Stops.{IsDeviceStop, IsUsageStop};
 ghost use Rattle.commands.specs.Telling.{faulted_line, line_of, refused_line, stop_text};
 
-use crate::printing::print;
+use crate::printing::{Printer, print, print_pieces};
 use command_line::LineFault;
+use itoa::Buffer;
 use std::alloc::{AllocError, Global};
 use std::io;
 use store::{Fault, Refusal};
@@ -118,12 +120,15 @@ pub fn usage(alloc: Global, text: &str) -> CommandError
 }
 
 /// Writes a text that goes out and LF, where there is one; at an error a beginning of them.
-pub fn tell_text<W: io::Write>(out: &mut W, text: &[u8]) -> Result<(), CommandError>
+pub fn tell_text<W: Printer>(out: &mut W, text: &[u8]) -> Result<(), CommandError>
     ensures printed { OnOk result (Appends (W.contents out.old) (W.contents out.new)
         (line_of text.now)) }
     ensures front { OnErr result
         (AppendsFront (W.contents out.old) (W.contents out.new) (line_of text.now)) }
     ensures halted { IfErr result IsDeviceStop }
+    ensures quiet { OnOk result (W.failures out.new ≡ W.failures out.old) }
+    ensures caused { IfErr result (IsDeviceBy
+        (WasRefused (W.failures out.old) (W.failures out.new))) }
 {
     if !text.is_empty() {
         print(out, text)?;
@@ -133,7 +138,7 @@ pub fn tell_text<W: io::Write>(out: &mut W, text: &[u8]) -> Result<(), CommandEr
 }
 
 /// Tells a refusal on standard error, as `refused 35 AlreadyEnrolled` or `refused 2 Note(006)`.
-pub fn tell_refusal<E: io::Write>(
+pub fn tell_refusal<E: Printer>(
     alloc: Global,
     err: &mut E,
     refusal: Refusal,
@@ -142,12 +147,13 @@ pub fn tell_refusal<E: io::Write>(
     ensures printed { OnOk result (Appends (E.contents err.old) (E.contents err.new)
         (refused_line refusal)) }
     ensures halted { IfErr result IsDeviceStop }
+    ensures caused { IfErr result (IsDeviceBy
+        (WasRefused (E.failures err.old) (E.failures err.new))) }
 {
-    let number = refusal.number();
     let name = refusal.name(alloc)?;
-    write!(err, "refused {number} ")?;
-    err.write_all(&name)?;
-    err.write_all(b"\n")?;
+    let mut number = Buffer::new();
+    let digits = number.format(refusal.number());
+    print_pieces(err, &[b"refused ", digits.as_bytes(), b" ", &name, b"\n"])?;
     Ok(ExitStatus::Refused)
 }
 

@@ -7,7 +7,7 @@ use crate::courier::Courier;
 use crate::running::{about_server_stop, get, get_text};
 use crate::telling::tell_report;
 use command_line::{Endpoint, Show};
-use commands::{CommandError, ExitStatus, about_document, tell_left};
+use commands::{CommandError, ExitStatus, Printer, about_document, tell_left};
 use folders::{FileSystem, is_sent, leave_document};
 use intake::Audience;
 use std::io;
@@ -117,7 +117,7 @@ fn hand_on_each<R: FileSystem + AllocGlobal, C: Courier, W: io::Write, E: io::Wr
 /// Asks a running server for what went out to a depositor, and writes each document of it to the
 /// file N.x12 of a folder, as `commands::hand_on` does over the book in its file. A server is only
 /// asked, for the list and then for each document that wasn't sent: it does nothing.
-pub fn hand_on_there<R: FileSystem + AllocGlobal, C: Courier, W: io::Write, E: io::Write>(
+pub fn hand_on_there<R: FileSystem + AllocGlobal, C: Courier, W: Printer, E: Printer>(
     rt: &R,
     courier: &mut C,
     server: &Endpoint<'_>,

@@ -12,10 +12,9 @@ use crate::paths::{deed_path, look_path};
 use crate::remote::{Request, ServerAnswer, Unanswered, Verb};
 use crate::telling::{tell_document, tell_report};
 use command_line::{Endpoint, Show};
-use commands::{CommandError, ExitStatus, about_server};
+use commands::{CommandError, ExitStatus, Printer, about_server};
 use intake::Audience;
 use std::alloc::Global;
-use std::io;
 use store::Fault;
 
 // Asks a server.
@@ -58,7 +57,7 @@ pub(crate) fn about_server_stop(alloc: Global, server: &Endpoint<'_>, fault: Fau
 }
 
 // Posts a body, and tells the answer.
-fn post<C: Courier, W: io::Write, E: io::Write>(
+fn post<C: Courier, W: Printer, E: Printer>(
     alloc: Global,
     courier: &mut C,
     server: &Endpoint<'_>,
@@ -151,7 +150,7 @@ pub(crate) fn get_text<C: Courier>(
 }
 
 // Asks for what these are shown, and tells it.
-fn report<C: Courier, W: io::Write, E: io::Write>(
+fn report<C: Courier, W: Printer, E: Printer>(
     alloc: Global,
     courier: &mut C,
     server: &Endpoint<'_>,
@@ -172,7 +171,7 @@ fn report<C: Courier, W: io::Write, E: io::Write>(
 
 // Asks for the stock as CSV, and tells it. A server without `--clerks` says 404 of every depositor
 // there, so the stock itself tells whether this one is unknown.
-fn export<C: Courier, W: io::Write, E: io::Write>(
+fn export<C: Courier, W: Printer, E: Printer>(
     alloc: Global,
     courier: &mut C,
     server: &Endpoint<'_>,
@@ -203,7 +202,7 @@ fn export<C: Courier, W: io::Write, E: io::Write>(
 // Asks for a text that went out, and tells it. A server says 404 of a number without a text and of
 // a stranger alike, so the list of what went out tells which it is: a stranger is refused, and of a
 // missing text only the status tells.
-fn content<C: Courier, W: io::Write, E: io::Write>(
+fn content<C: Courier, W: Printer, E: Printer>(
     alloc: Global,
     courier: &mut C,
     server: &Endpoint<'_>,
@@ -231,7 +230,7 @@ fn content<C: Courier, W: io::Write, E: io::Write>(
 }
 
 // Has a running server show something.
-fn look<C: Courier, W: io::Write, E: io::Write>(
+fn look<C: Courier, W: Printer, E: Printer>(
     alloc: Global,
     courier: &mut C,
     server: &Endpoint<'_>,
@@ -266,7 +265,7 @@ fn look<C: Courier, W: io::Write, E: io::Write>(
 /// file prints. Device (44) where no answer is brought, or where the answer is none that such a
 /// server gives; else a fault is the one that the server tells. Where the answer to a command is
 /// lost on the way, the command may be done: given again, it gets its first answer.
-pub fn carry_out<C: Courier, W: io::Write, E: io::Write>(
+pub fn carry_out<C: Courier, W: Printer, E: Printer>(
     alloc: Global,
     courier: &mut C,
     server: &Endpoint<'_>,

@@ -2,6 +2,7 @@
 use Rattle.std.proofs.Common.{◌≡◌, ◌∙◌, sym, refl, ap, subst, ℕ, List, [], ◌∷◌, ◌++◌, String, Global, length, map, ◌⊎◌, inl, inr, take, string_bytes}
 use Rattle.std.proofs.lemmas.List.{length-map, map-append}
 use Rattle.std.proofs.lemmas.List.Elements.{All-nil, All-push}
+use Rattle.std.specs.declared.io.ErrorKind.{ErrorKind}
 use Rattle.profile.specs.declared.rules.Rules.TheVariants.{Two}
 use Rattle.profile.specs.Moments.{Moment}
 use Rattle.profile.specs.Reply as replies
@@ -9,12 +10,20 @@ use Rattle.profile.specs.Register.{Interchange}
 use Rattle.profile.specs.Accepted.{accepted_on, replies_on, reply_to}
 use Rattle.store.specs.Standing.{Standing, IsUsable, GoesOn, LeavesEither, OfUsable}
 use Rattle.store.proofs.Changes.{clean_before}
+use Rattle.folders.specs.Answers.{IsBeside, IsFileBeside}
 use Rattle.folders.specs.Folders.{Became, became, handed, AreTextsTaken}
 use Rattle.folders.specs.Handed.{HandedFile, AreFilesHanded, IsFileHanded, IsStoppedWithin, IsUntaken}
 use Rattle.folders.specs.Stops.{IsNext}
 use Rattle.folders.proofs.Taking.{none_taken, taken_more, replies_more, either_usable, last_later, fault_of_later}
+use Rattle.folders.specs.declared.file_system.EntryKind.{EntryKind}
 use Rattle.folders.specs.declared.folder.FolderStop.{FolderStop}
 use Rattle.folders.specs.declared.folder.Taken.{Taken}
+
+-- an answer that was written, or that was there before as a file of its own
+pub beside_of : (finds : List ℕ → EntryKind → Type 0) (reads : List ℕ → ℕ → List ℕ → Type 0) (writes : List ℕ → List ℕ → Type 0) (fails : List ℕ → ErrorKind → Type 0) (path text : List ℕ)
+    → IsFileBeside finds reads writes fails path text → IsBeside reads writes path text
+beside_of finds reads writes fails path text (inl file) = inl file.written
+beside_of finds reads writes fails path text (inr there) = inr there.read
 
 -- none was handed in yet
 pub none_handed : (P : HandedFile → Type 0) (a : Standing) (t : Moment) → AreFilesHanded P a a t [] []

@@ -1,7 +1,7 @@
 -- Documents that are left in a folder.
-use Rattle.std.specs.Prelude.{◌≢◌, ◌⊎◌, ◌+◌, ℕ, List, ◌++◌, length, codes, decimal}
+use Rattle.std.specs.Prelude.{◌≢◌, ◌⊎◌, ℕ, List, ◌++◌, codes, decimal}
 use Rattle.std.specs.declared.io.ErrorKind.{ErrorKind}
-use Rattle.folders.specs.Entries.{IsFree, IsStanding}
+use Rattle.folders.specs.Entries.{IsFree, IsRead, IsStanding}
 use Rattle.folders.specs.Folders.{IsErrorAt}
 use Rattle.folders.specs.Paths.{file_path}
 use Rattle.folders.specs.declared.documents.DocumentLeft.{DocumentLeft}
@@ -22,10 +22,6 @@ pub record IsWritten
     (path text : List ℕ) : Type 0 where
   pub free : IsFree finds path
   pub written : writes path text
-
--- what was read of a file, up to one byte more than the document has
-abbrev pub IsRead : (List ℕ → ℕ → List ℕ → Type 0) → List ℕ → List ℕ → List ℕ → Type 0
-IsRead reads path text bytes = reads path (length text + 1) bytes
 
 -- Something stands there, which has just the document's bytes.
 pub record IsThere

@@ -1,5 +1,5 @@
--- What stands under a path.
-use Rattle.std.specs.Prelude.{◌≡◌, ℕ, Bool, true, false, List}
+-- What stands under a path, and what was read there.
+use Rattle.std.specs.Prelude.{◌≡◌, ◌+◌, ℕ, Bool, true, false, List, length}
 use Rattle.folders.specs.declared.file_system.EntryKind.{EntryKind}
 use Rattle.folders.specs.declared.file_system.EntryKind.TheVariants.{NoEntry}
 
@@ -16,3 +16,7 @@ pub record IsStanding (finds : List ℕ → EntryKind → Type 0) (path : List �
   pub kind : EntryKind
   pub found : finds path kind
   pub there : is_there kind ≡ true
+
+-- what was read of a file, up to one byte more than this text has
+abbrev pub IsRead : (List ℕ → ℕ → List ℕ → Type 0) → List ℕ → List ℕ → List ℕ → Type 0
+IsRead reads path text bytes = reads path (length text + 1) bytes

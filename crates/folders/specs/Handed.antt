@@ -9,6 +9,7 @@ use Rattle.profile.specs.Reply as replies
 use Rattle.profile.specs.Accepted.{reply_to, replies_on, accepted_on}
 use Rattle.store.specs.Standing.{Standing, IsUsable, OfUsable}
 use Rattle.store.specs.Fault.{Fault}
+use Rattle.folders.specs.Answers.{IsBeside}
 use Rattle.folders.specs.Paths.{answer_path, file_path}
 use Rattle.folders.specs.Folders.{Became, became, handed, AreTextsTaken, AreTakenUntil, IsFolderFault}
 use Rattle.folders.specs.Stops.{IsFolderStop, IsNext}
@@ -40,7 +41,7 @@ pub record IsHanded
     (lacks : List ℕ → Type 0) (dir : List ℕ) (file : HandedFile) : Type 0 where
   pub read : IsText reads (file_path dir file.name) file.text
   pub answered : text_of file.reply ≢ []
-      → writes (answer_path (file_path dir file.name)) (text_of file.reply)
+      → IsBeside reads writes (answer_path (file_path dir file.name)) (text_of file.reply)
   pub unanswered : text_of file.reply ≡ [] → lacks (answer_path (file_path dir file.name))
 
 -- The file of this name was handed in as P says, and this became of it.

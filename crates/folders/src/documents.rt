@@ -1,12 +1,12 @@
 //! Documents that are left in a folder, each once, for whoever sends them on.
-ghost use Rattle.std.specs.Prelude.{◌≡◌, ◌≢◌, ◌++◌, ℕ, List, true, false, codes, IfOk, IfErr, OnOk, string_bytes};
+ghost use Rattle.std.specs.Prelude.{◌≡◌, ◌++◌, true, false, codes, IfOk, IfErr, OnOk, string_bytes};
 ghost use Rattle.std.specs.IoError.{error_kind};
 ghost use Rattle.folders.specs.Entries.{IsFree, IsStanding};
 ghost use Rattle.folders.specs.Folders.{IsErrorAt};
-ghost use Rattle.folders.specs.Documents.{IsErrorAtEither, IsLeft, IsPut, IsRead, document_path, sent_path};
+ghost use Rattle.folders.specs.Documents.{IsErrorAtEither, IsLeft, IsPut, document_path, sent_path};
 
 use crate::file_system::FileSystem;
-use crate::files::{is_free, read_first};
+use crate::files::{has_just, is_free};
 use itoa::Buffer;
 use std::alloc::{AllocError, Global};
 use std::io;
@@ -52,19 +52,6 @@ fn is_path_sent<R: FileSystem + AllocGlobal>(rt: &R, path: &str) -> io::Result<b
 {
     let sent = [path, ".sent"].concat(rt.alloc())?;
     Ok(!is_free(rt, &sent)?)
-}
-
-// Whether a file has just the bytes of a document.
-fn has_just<R: FileSystem>(rt: &R, path: &str, text: &[u8]) -> io::Result<bool>
-    ensures same { IfOk result
-        (λ is. is ≡ true → IsRead (R.reads rt.now) path.now text.now text.now) }
-    ensures other { IfOk result
-        (λ is. is ≡ false → (bytes : List ℕ) × IsRead (R.reads rt.now) path.now text.now bytes
-        × (bytes ≢ text.now)) }
-    ensures failed { IfErr result (λ error. R.fails rt.now path.now (error_kind error)) }
-{
-    let bytes = read_first(rt, path, text.len() as u64 + 1)?;
-    Ok(bytes.as_slice() == text)
 }
 
 // Writes a document under a path where nothing stood.

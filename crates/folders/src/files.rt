@@ -1,7 +1,7 @@
 //! Files that are read up to a limit, so that one without an end can't take all memory.
-ghost use Rattle.std.specs.Prelude.{◌≡◌, ◌+◌, true, false, not, IfOk, IfErr};
+ghost use Rattle.std.specs.Prelude.{◌≡◌, ◌≢◌, ◌+◌, ℕ, List, true, false, not, IfOk, IfErr};
 ghost use Rattle.std.specs.IoError.{error_kind};
-ghost use Rattle.folders.specs.Entries.{IsFree, IsStanding, is_there};
+ghost use Rattle.folders.specs.Entries.{IsFree, IsRead, IsStanding, is_there};
 
 use crate::file_system::{EntryKind, FileSystem};
 use profile::MOST_BYTES;
@@ -38,4 +38,17 @@ pub(crate) fn is_free<R: FileSystem>(rt: &R, path: &str) -> io::Result<bool>
     ensures failed { IfErr result (λ error. R.fails rt.now path.now (error_kind error)) }
 {
     Ok(is_nothing(rt.kind_of(path)?))
+}
+
+// Whether a file has just these bytes. One more than these is read, to see where it has others.
+pub(crate) fn has_just<R: FileSystem>(rt: &R, path: &str, text: &[u8]) -> io::Result<bool>
+    ensures same { IfOk result
+        (λ is. is ≡ true → IsRead (R.reads rt.now) path.now text.now text.now) }
+    ensures other { IfOk result
+        (λ is. is ≡ false → (bytes : List ℕ) × IsRead (R.reads rt.now) path.now text.now bytes
+        × (bytes ≢ text.now)) }
+    ensures failed { IfErr result (λ error. R.fails rt.now path.now (error_kind error)) }
+{
+    let bytes = read_first(rt, path, text.len() as u64 + 1)?;
+    Ok(bytes.as_slice() == text)
 }

@@ -1,5 +1,6 @@
 ghost use Rattle.std.specs.Prelude.{◌≡◌, ◌≢◌, ◌<◌, [], ℕ, List, map, IfOk, IfErr, IfNone, IsSome, OnOk, IsSorted, string_bytes, vec_len, vec_capacity};
 ghost use Rattle.std.specs.IoError.{error_kind};
+ghost use Rattle.folders.specs.Answers.{IsFileBeside};
 ghost use Rattle.folders.specs.Folders.{became, became_of, fault_of_kind, HasCause, IsDeviceFault, AreTextsTaken, IsFolderStopped};
 ghost use Rattle.folders.specs.Handed.{text_of, AreFilesHanded, IsFileHanded, IsHanded, IsStoppedIn, IsStoppedWithin, IsText, IsUntaken};
 ghost use Rattle.folders.specs.Listing.{IsListed};
@@ -82,10 +83,11 @@ fn bytes_of<R: FileSystem>(rt: &R, path: &str) -> Result<Vec<u8>, Fault>
     }
 }
 
-// Writes an answer beside its file. Where it is empty, an old one is removed.
+// Writes an answer beside its file, unless it is there. Where it is empty, an old one is removed.
 fn leave_answer<R: FileSystem + AllocGlobal>(rt: &R, path: &str, answer: &[u8]) -> Result<(), Fault>
     ensures written { OnOk result
-        (answer.now ≢ [] → R.writes rt.now (answer_path path.now) answer.now) }
+        (answer.now ≢ [] → IsFileBeside (R.finds rt.now) (R.reads rt.now) (R.writes rt.now)
+        (R.fails rt.now) (answer_path path.now) answer.now) }
     ensures removed { OnOk result (answer.now ≡ [] → R.lacks rt.now (answer_path path.now)) }
     ensures named { IfErr result IsDeviceFault }
     ensures cause { IfErr result (HasCause (R.fails rt.now)) }
@@ -210,10 +212,10 @@ fn take_names<R: FileSystem + AllocGlobal, K: Keeper, T: FnMut(u64, u64)>(
 
 /// Submits each interchange of a folder, the regular files whose names end `.x12` or `.X12` and
 /// links to such files, in the order of their names' bytes, and writes a nonempty answer to the
-/// name with `.ans` added, as a file of its own that replaces what stands there; where the answer
-/// is empty, what stands there is removed. A file whose answer is there already is submitted again,
-/// and its answer written anew: so taking the folder again mends a stop at any place. After each
-/// file `told` is handed how many were taken of how many.
+/// name with `.ans` added, as a file of its own that replaces what stands there. A regular file
+/// that has just the answer's bytes is left alone. Where the answer is empty, what stands there is
+/// removed. A file whose answer is there already is submitted again: so taking the folder again
+/// mends a stop at any place. After each file `told` is handed how many were taken of how many.
 ///
 /// Passed over, and told, is what may be meant as an interchange: an entry of another kind whose
 /// name ends `.x12` or `.X12`, a file with such a name of more than 251 bytes, and each entry whose

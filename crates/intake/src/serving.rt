@@ -249,7 +249,8 @@ fn receive<R: Read, K: Keeper>(
 /// no sheet 422. Where the health of the book is told (`Access`), a request for it comes after the
 /// doors: 501 and 405 as above, else how far the book goes, or the 503 of the fault of the look. A
 /// growth that is refused gives the 503 of 40; where only the copy of the method and the path is,
-/// these aren't told, and the answer is the same. Of an interchange that is handed in, its sender
+/// these aren't told, and the answer is the same; where only the buffer of the response is, it goes
+/// out piece by piece, and its bytes are the same. Of an interchange that is handed in, its sender
 /// is told, also where it is refused.
 ///
 /// The one fault is Device (44): the reader or the writer gave an error, or took 0 bytes. Where the
@@ -296,7 +297,7 @@ pub fn serve_telling<R: Read, W: Write, K: Keeper>(
     };
     let Answered { replied, is_health } = answered;
     let Replied { response, sender } = replied;
-    match write_response(writer, &response) {
+    match write_response(alloc, writer, &response) {
         Ok(bytes) => Served {
             outcome: Ok(response.status.code()),
             line,

@@ -7,6 +7,7 @@ ghost use Rattle.intake.specs.Answers.{type_text, length_text, type_end, allow_t
 use crate::response::{Allow, MediaType, Response};
 use gauges::{Gauge, Unwritten, send_pieces};
 use itoa::Buffer;
+use std::alloc::{AllocError, Global};
 use std::io::Write;
 
 // The field of the type, and the name of the field of the length.
@@ -80,9 +81,27 @@ fn pieces<'a>(response: &'a Response, code: &'a [u8], digits: &'a [u8]) -> [&'a 
     ]
 }
 
+// The pieces one after the other, in one buffer. Its room is made once, so each byte is copied
+// once. It takes as much memory as there are bytes.
+fn join(alloc: Global, pieces: &[&[u8]]) -> Result<Vec<u8>, AllocError>
+    ensures { IfOk result (λ whole. whole.items ≡ joined pieces.now) }
+{
+    let length = pieces
+        .iter()
+        .fold(0usize, |length, piece| length.saturating_add(piece.len()));
+    let mut whole = Vec::with_capacity(alloc, length)?;
+    for piece in pieces {
+        whole.extend_from_slice(piece)?;
+    }
+    Ok(whole)
+}
+
 /// Writes a response, or a beginning of it where the writer fails. The result is how many bytes
-/// were written. It takes no memory.
+/// were written. Head and body go out in one write, or in more where the writer takes less at once.
+/// They are copied once for that, into memory of as many bytes, which is given back at the end.
+/// Where that memory is wanting, they go out piece by piece. The bytes are the same.
 pub(crate) fn write_response<W: Write>(
+    alloc: Global,
     writer: &mut Gauge<W>,
     response: &Response,
 ) -> Result<u64, Unwritten>
@@ -102,5 +121,9 @@ pub(crate) fn write_response<W: Write>(
         .format(response.status.code().as_u16())
         .as_bytes();
     let digits = length_buffer.format(response.body.bytes().len()).as_bytes();
-    send_pieces(writer, &pieces(response, code, digits))
+    let pieces = pieces(response, code, digits);
+    match join(alloc, &pieces) {
+        Ok(whole) => send_pieces(writer, &[whole.as_slice()]),
+        Err(_) => send_pieces(writer, &pieces),
+    }
 }

@@ -14,3 +14,4 @@ mod RerunLemmas
 mod KeptLemmas
 mod JobLemmas
 mod CheckingLemmas
+mod SessionLemmas

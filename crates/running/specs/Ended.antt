@@ -1,26 +1,18 @@
 -- How a line of words ended, from what the files of its book held.
-use Rattle.std.specs.Prelude.{◌≡◌, ◌⊎◌, Bool, ◌||◌, ℕ, true, false, List, [], ◌∷◌, Option, Some, Ok, Err, OnOk, map, bytes_eq, codes}
+use Rattle.std.specs.Prelude.{◌≡◌, Bool, ◌||◌, ℕ, true, false, List, [], ◌∷◌, Option, Some, Ok, Err, bytes_eq, codes}
 use Rattle.std.specs.Borrow.{Bor}
 use Rattle.std.specs.Option.{option_map_or}
 use Rattle.sqlite_disk.specs.declared.Disk.{Ghosts as Disks}
 use Rattle.sqlite.specs.Recovery.{Image}
-use Rattle.store.specs.Fault.TheVariants.{OutOfMemory}
-use Rattle.store.specs.Refusal.{Refusal}
-use Rattle.command_line.specs.Asked.{CanBeRead, IsLineRead}
-use Rattle.command_line.specs.declared.words.Place.TheVariants.{Program}
-use Rattle.command_line.specs.declared.words.Task.{Task}
 use Rattle.command_line.specs.declared.words.Words.{Words}
 use Rattle.command_line.specs.declared.words.Words.TheVariants as words
 use Rattle.commands.specs.Acting.{Ending}
-use Rattle.commands.specs.Files.{reads_any}
-use Rattle.commands.specs.Statuses.{code_of, status_of_stop}
+use Rattle.commands.specs.Statuses.{status_of_stop}
 use Rattle.commands.specs.Stops.{HasDeviceFault, fault_in}
-use Rattle.commands.specs.declared.told.CommandError.TheVariants as stops
 use Rattle.commands.specs.declared.told.ExitStatus.{ExitStatus}
 use Rattle.running.specs.Explaining.{without_asking}
 use Rattle.running.specs.Faults.{is_in_use}
 use Rattle.running.specs.FileEnds.{IsRunEnd}
-use Rattle.running.specs.Working.{IsJobFor, IsNoJobFor}
 use Rattle.running.specs.declared.from_file.FilesLeft.{FilesLeft}
 use Rattle.running.specs.declared.from_file.FilesLeft.TheVariants as left
 use Rattle.running.specs.declared.over_file.Job.{Job}
@@ -71,60 +63,3 @@ module _ {D : Type 0} {disk : Disks D} where
     abbrev pub IsJobEnded : Job → W → W → Ending → FilesLeft D disk → Type 0
     IsJobEnded j before later (Err stop) left.Untouched = (later ≡ before) × HasDeviceFault stop
     IsJobEnded j before later ending files = IsRunOnce j before later ending files
-
-    -- the job that a line asks for ended so
-    pub record HasJobEnded
-        (t : Task) (before later : W) (ending : Ending) (files : FilesLeft D disk) : Type 0 where
-      pub asked : Job
-      pub for : IsJobFor reads_any t asked
-      pub ended : IsJobEnded asked before later ending files
-
-    -- it wasn't made ready: it is refused, or a fault came first, and nothing is printed
-    pub record IsNoJob
-        (t : Task) (before later : W) (ending : Ending) (files : FilesLeft D disk) : Type 0 where
-      pub untouched : files ≡ left.Untouched
-      pub printed : later ≡ before
-      pub why : OnOk ending ((refusal : Refusal) × IsNoJobFor reads_any t refusal)
-
-    abbrev pub IsTaskEnded : Task → W → W → Ending → FilesLeft D disk → Type 0
-    IsTaskEnded t before later ending files = HasJobEnded t before later ending files
-        ⊎ IsNoJob t before later ending files
-
-    -- what words of a line over a book in its file came to; others open no book
-    abbrev pub IsWordsEnded : Words → W → W → Ending → FilesLeft D disk → Type 0
-    IsWordsEnded (words.Over (Some file) opening task) before later ending files =
-        IsTaskEnded task before later ending files
-    IsWordsEnded other before later ending files = files ≡ left.Untouched
-
-    -- the words of a line were read, and this came of them
-    pub record HasLineEnded
-        (said : List (Bor (List ℕ))) (before later : W) (ending : Ending)
-        (files : FilesLeft D disk) : Type 0 where
-      pub asked : Words
-      pub read : IsLineRead Program (map (λ w. w.now) said) asked
-      pub ended : IsWordsEnded asked before later ending files
-
-    -- no book was opened: the line can't be read, or it asks for help, or memory was wanting
-    pub record IsPassedOver
-        (said : List (Bor (List ℕ))) (ending : Ending) (files : FilesLeft D disk) : Type 0 where
-      pub untouched : files ≡ left.Untouched
-      pub why : asks_for_help said ≡ false → CanBeRead Program (map (λ w. w.now) said)
-          → ending ≡ Err (stops.Fault OutOfMemory)
-
-    -- what a line came to
-    abbrev pub IsLineEnded : List (Bor (List ℕ)) → W → W → Ending → FilesLeft D disk → Type 0
-    IsLineEnded said before later ending files = HasLineEnded said before later ending files
-        ⊎ IsPassedOver said ending files
-
-    -- what the words of a line came to, with the exit status
-    pub record IsLineRun
-        (line : List (Bor (List ℕ))) (before later : W) (code : ℕ) (files : FilesLeft D disk)
-        : Type 0 where
-      pub ending : Ending
-      pub ended : IsLineEnded line before later ending files
-      pub says : code ≡ code_of (status_of_ending ending)
-
-    -- the same of a line of the program, one of whose words may ask for explanations
-    abbrev pub IsProgramRun : List (Bor (List ℕ)) → W → W → ℕ → FilesLeft D disk → Type 0
-    IsProgramRun said before later code files =
-        IsLineRun (line_of said) before later code files

@@ -2,6 +2,7 @@ pub mod Checking
 pub mod Days
 pub mod Done
 pub mod Ended
+pub mod Sessions
 pub mod Explaining
 pub mod Faults
 pub mod FromFile

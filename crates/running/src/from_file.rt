@@ -11,7 +11,7 @@ ghost use Rattle.running.specs.FromFile.{IsDoneFrom};
 use crate::book_files::fault;
 use crate::checking::check_over;
 use crate::over_file::{Job, work_over};
-use commands::{CommandError, ExitStatus, Verbosity};
+use commands::{CommandError, ExitStatus, Printer, Verbosity};
 use seals::Beginning;
 use sqlite::{Alter, Connection, Error, FileFrom, FileStore, Files, Leftover, Start};
 use sqlite_disk::Disk;
@@ -57,7 +57,7 @@ fn settle<S: Alter>(database: &Connection<S>)
 
 /// Opens the files of a book and does a job over it. The database is handed back as the job left
 /// it.
-pub(crate) fn work_from<S: Start, W: io::Write, E: io::Write>(
+pub(crate) fn work_from<S: Start, W: Printer, E: Printer>(
     rt: &HostRuntime,
     file: &str,
     start: S,
@@ -107,7 +107,7 @@ fn close_after<D: Disk + Drop>(status: ExitStatus, database: Connection<FileStor
 }
 
 // Opens the files of a book, does a job over it, and closes them.
-fn do_from<S: Start, W: io::Write, E: io::Write>(
+fn do_from<S: Start, W: Printer, E: Printer>(
     rt: &HostRuntime,
     file: &str,
     start: S,
@@ -159,7 +159,7 @@ fn check_from<S: Start, W: io::Write, E: io::Write>(
 /// Opens the files of a book, does a job over it, and closes them: what was committed is then in
 /// the file, also without its log. At a stop the files are let go of as they are: the log has all
 /// that was answered, and nothing more is written to a disk that has just failed.
-pub(crate) fn run_from<S: Start, W: io::Write, E: io::Write>(
+pub(crate) fn run_from<S: Start, W: Printer, E: Printer>(
     rt: &HostRuntime,
     file: &str,
     start: S,

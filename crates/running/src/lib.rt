@@ -17,5 +17,5 @@ mod waiting;
 
 pub use from_file::FilesLeft;
 pub use over_file::Job;
-pub use run::{FilesBehind, command, command_from, command_leaving};
+pub use run::{FilesBehind, Starts, command, command_from, command_leaving};
 pub use starting::program;

@@ -12,7 +12,7 @@ use crate::missing_texts::tell_missing;
 use books::{Book, Tables};
 use command_line::{Service, Task};
 use commands::{
-    CommandError, ExitStatus, FileNames, Look, Ready, ServedFile, TimeSource, Verbosity,
+    CommandError, ExitStatus, FileNames, Look, Printer, Ready, ServedFile, TimeSource, Verbosity,
     about_missing, ask, hand_on, moment_for, perform, play_over, read_lines, ready_at, serve, show,
     tell_reason, tell_seal, usage,
 };
@@ -47,7 +47,7 @@ pub enum Job<'a> {
 }
 
 // Does a job over a book; what is to be made is made by then.
-fn work<K: Sealed, W: io::Write, E: io::Write>(
+fn work<K: Sealed, W: Printer, E: Printer>(
     rt: &HostRuntime,
     book: &mut K,
     job: &Job<'_>,
@@ -145,7 +145,7 @@ fn explain<K: Keeper, E: io::Write>(
 
 /// Opens the book in a database, or makes it, does a job over it, and closes it. At a fault the
 /// database is handed back as it is.
-pub(crate) fn work_over<S: Alter + Drop, W: io::Write, E: io::Write>(
+pub(crate) fn work_over<S: Alter + Drop, W: Printer, E: Printer>(
     rt: &HostRuntime,
     database: Connection<S>,
     job: &Job<'_>,

@@ -1,15 +1,14 @@
 //! What a line says, done by a running server.
 use crate::missing_texts::tell_missing;
 use command_line::{Endpoint, Show, Task};
-use commands::{CommandError, ExitStatus, Verbosity, tell_unready};
+use commands::{CommandError, ExitStatus, Printer, Verbosity, tell_unready};
 use errands::{
     Errand, HandOn, Listening, Network, carry_out, errand_of, hand_on_there, tell_reason_there,
 };
-use std::io;
 use store::{Refusal, Who};
 
 // Hands on the documents that a running server has of a depositor.
-fn hand_on_from<W: io::Write, E: io::Write>(
+fn hand_on_from<W: Printer, E: Printer>(
     rt: &HostRuntime,
     server: &Endpoint<'_>,
     task: &Task<'_>,
@@ -27,7 +26,7 @@ fn hand_on_from<W: io::Write, E: io::Write>(
 
 /// Has a running server do what a line says, and prints what it prints over the book in its file.
 /// Words are tested and files read before the server is asked.
-pub fn run_over_server<W: io::Write, E: io::Write>(
+pub fn run_over_server<W: Printer, E: Printer>(
     rt: &HostRuntime,
     server: &Endpoint<'_>,
     task: &Task<'_>,

@@ -1,12 +1,14 @@
 //! The program's words, as the system hands them over.
-ghost use Rattle.std.specs.Prelude.{◌≡◌, OnErr, IfOk};
+ghost use Rattle.std.specs.Prelude.{◌≡◌, ℕ, List, OnErr, IfOk};
+ghost use Rattle.std.specs.Borrow.{Bor};
 ghost use Rattle.commands.specs.Statuses.{IsCode};
-ghost use Rattle.running.specs.Program.{HasRun, IsProgram};
+ghost use Rattle.running.specs.Program.{IsCommand, IsProgram};
 ghost use Rattle.sqlite.specs.WalFiles.{image_at};
 
 use crate::run::command;
-use commands::{CommandError, tell_stop, usage};
-use sqlite::{Start, Unknown, Wary};
+use commands::{CommandError, Printer, tell_stop, usage};
+use sqlite::{FileFrom, Start, Unknown, Wary};
+use sqlite_disk::Disk;
 use std::rt::Env;
 use std::{env, io};
 
@@ -22,13 +24,14 @@ fn words_of<R: Env + AllocGlobal>(rt: &R) -> Result<Vec<String>, CommandError> {
 }
 
 // Runs the line of words that the system hands over.
-fn run<W: io::Write, E: io::Write>(
+fn run<W: Printer, E: Printer>(
     rt: &HostRuntime,
     out: &mut W,
     err: &mut E,
 ) -> Result<u8, CommandError>
-    ensures ran { IfOk result (λ code. HasRun W.contents (image_at ⟦<Unknown as Start>⟧)
-        (image_at ⟦<Wary as Start>⟧) out.old out.new code) }
+    ensures ran { IfOk result (λ code. (said : List (Bor (List ℕ))) × IsCommand
+        ⟦<FileFrom<Unknown> as Disk>⟧ ⟦<FileFrom<Wary> as Disk>⟧ W.contents
+        (image_at ⟦<Unknown as Start>⟧) (image_at ⟦<Wary as Start>⟧) said out.old out.new code) }
     ensures code { IfOk result IsCode }
     ensures silent { OnErr result (out.new ≡ out.old) }
 {
@@ -39,9 +42,9 @@ fn run<W: io::Write, E: io::Write>(
 
 /// Runs the line of words that the program was started with, as `command` does. A word that isn't
 /// UTF-8 text is a usage fault; then, and where the words can't be had, nothing is opened.
-pub fn program<W: io::Write, E: io::Write>(rt: &HostRuntime, out: &mut W, err: &mut E) -> u8
-    ensures run { IsProgram W.contents (image_at ⟦<Unknown as Start>⟧)
-        (image_at ⟦<Wary as Start>⟧) out.old out.new result }
+pub fn program<W: Printer, E: Printer>(rt: &HostRuntime, out: &mut W, err: &mut E) -> u8
+    ensures run { IsProgram ⟦<FileFrom<Unknown> as Disk>⟧ ⟦<FileFrom<Wary> as Disk>⟧ W.contents
+        (image_at ⟦<Unknown as Start>⟧) (image_at ⟦<Wary as Start>⟧) out.old out.new result }
     ensures code { IsCode result }
 {
     match run(rt, out, err) {

@@ -2,21 +2,26 @@
 ghost use Rattle.std.specs.Prelude.{◌≡◌, ◌≤◌, true};
 ghost use Rattle.sqlite.specs.WalFiles.{image_at};
 ghost use Rattle.commands.specs.Stops.{fault_in};
-ghost use Rattle.running.specs.Ended.{IsBusy, IsJobEnded, IsTaskEnded, IsToldAs};
+ghost use Rattle.commands.specs.Files.{reads_any};
+ghost use Rattle.running.specs.Ended.{IsBusy, IsJobEnded, IsToldAs};
+ghost use Rattle.running.specs.Sessions as meant;
+ghost use Rattle.running.specs.Sessions.{HasJobEnded, IsTaskEnded};
+ghost use Rattle.running.specs.Working.{IsJobFor};
 
 use crate::book_files::{fault, is_in_use};
 use crate::from_file::{Ended, FilesLeft, run_from};
 use crate::over_file::{Job, job_of};
 use command_line::Task;
 use commands::{
-    CommandError, ExitStatus, Verbosity, about_book, about_missing, about_opening, about_use,
-    tell_unready,
+    CommandError, ExitStatus, Printer, Verbosity, about_book, about_missing, about_opening,
+    about_use, moment_for, tell_stop, tell_unready,
 };
 use sqlite::{FileFrom, Start};
 use sqlite_disk::Disk;
 use std::alloc::Global;
 use std::time::Duration;
-use std::{fs, io, thread};
+use std::{fs, thread};
+use store::Fault;
 
 /// How a line ended that didn't come to the files of a book.
 pub(crate) fn ended_before<D: Disk + Drop>(ending: Result<ExitStatus, CommandError>) -> Ended<D>
@@ -95,24 +100,36 @@ fn told_of<D: Disk + Drop>(alloc: Global, file: &str, job: &Job<'_>, ended: Ende
     }
 }
 
+/// A line over the book in a file.
+#[derive(Clone, Copy)]
+pub(crate) struct FileLine<'a, 't> {
+    /// The file's name.
+    pub(crate) file: &'a str,
+    /// For how many seconds the book is waited for while it is in use, if the line says it.
+    pub(crate) wait: Option<u16>,
+    /// What is asked for.
+    pub(crate) task: &'t Task<'a>,
+}
+
 // Does a job over the book in a file, of which it is known whether it is there. While somebody else
 // has the file open it is looked at again, so often; each look begins with a start of its own.
-fn over<S: Start, F: FnMut() -> S, W: io::Write, E: io::Write>(
+fn over<S: Start, F: FnMut() -> S, W: Printer, E: Printer>(
     rt: &HostRuntime,
-    file: &str,
-    looks: u32,
-    mut starts: F,
+    line: FileLine<'_, '_>,
+    starts: &mut F,
     job: &Job<'_>,
     verbosity: Verbosity,
     out: &mut W,
     err: &mut E,
 ) -> Ended<FileFrom<S>>
-    requires { F.IsAlwaysCallable starts }
+    requires { F.IsAlwaysCallable starts.old }
 
-    ensures { IsJobEnded W.contents (image_at S.Start) job.now out.old out.new result.ending
+    ensures ended { IsJobEnded W.contents (image_at S.Start) job.now out.old out.new result.ending
         result.files }
+    ensures starts { F.IsAlwaysCallable starts.new }
 {
-    for look in 0..looks {
+    let file = line.file;
+    for look in 0..looks_of(line.wait) {
         if look > 0 {
             thread::sleep(rt, Duration::from_millis(1_000 / u64::from(LOOKS_A_SECOND)));
         }
@@ -127,51 +144,145 @@ fn over<S: Start, F: FnMut() -> S, W: io::Write, E: io::Write>(
 // Does a job over the book in a file. NotThisBook (43) where the file holds no database; Device
 // (44) where it can't be made, read or written, is missing and isn't to be made, or is still in use
 // after it was waited for.
-fn over_found<S: Start, F: FnMut() -> S, W: io::Write, E: io::Write>(
+fn over_found<S: Start, F: FnMut() -> S, W: Printer, E: Printer>(
     rt: &HostRuntime,
-    file: &str,
-    wait: Option<u16>,
-    starts: F,
+    line: FileLine<'_, '_>,
+    starts: &mut F,
     job: &Job<'_>,
     verbosity: Verbosity,
     out: &mut W,
     err: &mut E,
 ) -> Ended<FileFrom<S>>
-    requires { F.IsAlwaysCallable starts }
+    requires { F.IsAlwaysCallable starts.old }
 
-    ensures { IsJobEnded W.contents (image_at S.Start) job.now out.old out.new result.ending
+    ensures ended { IsJobEnded W.contents (image_at S.Start) job.now out.old out.new result.ending
         result.files }
+    ensures starts { F.IsAlwaysCallable starts.new }
 {
     if !matches!(job, Job::Make(_)) {
         // A database that is opened is made where its file is missing.
-        if let Err(error) = fs::metadata(rt, file) {
-            return ended_before(Err(about_missing(rt.alloc(), file, &error)));
+        if let Err(error) = fs::metadata(rt, line.file) {
+            return ended_before(Err(about_missing(rt.alloc(), line.file, &error)));
         }
     }
-    over(rt, file, looks_of(wait), starts, job, verbosity, out, err)
+    over(rt, line, starts, job, verbosity, out, err)
+}
+
+// How often a server opens its book again, with a second between: for more than a century.
+const SESSIONS: u32 = u32::MAX;
+
+// Whether a line serves until it is stopped.
+fn serves_on(task: &Task<'_>) -> bool
+    ensures { result ≡ meant.serves_on task.now }
+{
+    match task {
+        Task::Serve { service, .. } => service.count.is_none(),
+        _ => false,
+    }
+}
+
+// Whether it stopped since its book has to be opened again.
+fn has_to_reopen(ending: &Result<ExitStatus, CommandError>) -> bool {
+    match ending {
+        Err(CommandError::Fault(fault) | CommandError::Caused(fault, _)) => *fault == Fault::Reopen,
+        _ => false,
+    }
+}
+
+// Whether what stopped a server may mend: the disk had no room, or memory was wanting, and not that
+// the book is damaged.
+fn may_mend(stop: &CommandError) -> bool
+    ensures { result ≡ meant.may_mend stop.now }
+{
+    match stop {
+        CommandError::Usage(_) => false,
+        CommandError::Fault(fault) | CommandError::Caused(fault, _) => {
+            !matches!(fault, Fault::NotThisBook)
+        }
+    }
+}
+
+// The job of a server whose book is opened again, from the moment on that the clock shows now; the
+// file that it serves stays the one that its name led to first.
+fn job_again<'a>(rt: &HostRuntime, task: &Task<'a>, job: Job<'a>) -> Job<'a>
+    ensures { IsJobFor reads_any task.now job.entry → IsJobFor reads_any task.now result }
+{
+    match (task, job) {
+        (Task::Serve { at, .. }, Job::Listen(service, first, has_clock, file)) => {
+            let now = moment_for(rt, *at).unwrap_or(first);
+            Job::Listen(service, now, has_clock, file)
+        }
+        (_, job) => job,
+    }
+}
+
+// Whether the file of a book that is served is still there.
+fn is_served(rt: &HostRuntime, job: &Job<'_>) -> bool {
+    match job {
+        Job::Listen(_, _, _, file) => file.is_there(rt),
+        _ => false,
+    }
+}
+
+// Does the job of a line over the book in its file, once. But a server that goes on until it is
+// stopped opens its book again where that is what it takes, as after a full disk, and goes on; what
+// it stopped for is told.
+fn do_job<'a, S: Start, F: FnMut() -> S, W: Printer, E: Printer>(
+    rt: &HostRuntime,
+    line: FileLine<'a, '_>,
+    mut starts: F,
+    first: Job<'a>,
+    verbosity: Verbosity,
+    out: &mut W,
+    err: &mut E,
+) -> Ended<FileFrom<S>>
+    requires starts { F.IsAlwaysCallable starts }
+    requires job { IsJobFor reads_any line.task.now first }
+
+    ensures { HasJobEnded W.contents (image_at S.Start) line.entry.task.now out.old out.new
+        result.ending result.files }
+{
+    let mut job = first;
+    let mut ended = over_found(rt, line, &mut starts, &job, verbosity, out, err);
+    if !serves_on(line.task) || !has_to_reopen(&ended.ending) {
+        return ended;
+    }
+    for session in 0..SESSIONS {
+        let Err(stop) = &ended.ending else {
+            return ended;
+        };
+        if !may_mend(stop) || !is_served(rt, &job) {
+            return ended;
+        }
+        tell_stop(err, stop, verbosity.explains);
+        // Nobody opens them while they are open here.
+        ended.files = FilesLeft::Untouched;
+        thread::sleep(rt, Duration::from_secs(1));
+        job = job_again(rt, line.task, job);
+        ended = over_found(rt, line, &mut starts, &job, verbosity, out, err);
+    }
+    ended
 }
 
 /// Does over the book in a file what a line says; a book that is in use is waited for, 5 seconds
 /// where the line doesn't say how long. A clock that can't be used is told before the book is
 /// opened.
-pub(crate) fn run_over_file<'a, S: Start, F: FnMut() -> S, W: io::Write, E: io::Write>(
+pub(crate) fn run_over_file<'a, S: Start, F: FnMut() -> S, W: Printer, E: Printer>(
     rt: &HostRuntime,
-    file: &'a str,
-    wait: Option<u16>,
+    line: FileLine<'a, '_>,
     starts: F,
-    task: &Task<'a>,
     verbosity: Verbosity,
     out: &mut W,
     err: &mut E,
 ) -> Ended<FileFrom<S>>
     requires { F.IsAlwaysCallable starts }
 
-    ensures { IsTaskEnded W.contents (image_at S.Start) task.now out.old out.new result.ending
-        result.files }
+    ensures { IsTaskEnded W.contents (image_at S.Start) line.entry.task.now out.old out.new
+        result.ending result.files }
 {
-    match job_of(rt, file, task) {
-        Ok(Ok(job)) => over_found(rt, file, wait, starts, &job, verbosity, out, err),
-        Ok(Err(refusal)) => ended_before(tell_unready(rt, task, refusal, verbosity, err)),
+    match job_of(rt, line.file, line.task) {
+        Ok(Ok(job)) => do_job(rt, line, starts, job, verbosity, out, err),
+        Ok(Err(refusal)) => ended_before(tell_unready(rt, line.task, refusal, verbosity, err)),
         Err(stop) => ended_before(Err(stop)),
     }
 }

@@ -9,13 +9,12 @@ use crate::texts::text_of;
 use cases::clerks::{deeds, looks, response_of, strays};
 use cases::sections::section_of;
 use cases::spreading::spread;
-use commands::{CommandError, ExitStatus, tell_stop};
+use commands::{CommandError, ExitStatus, Printer, tell_stop};
 use errands::remote::{ServerAnswer, Unanswered, read_answer};
 use errands::{tell_document, tell_report};
 use intake::Audience;
 use std::alloc::Global;
 use std::fs;
-use std::io::Write;
 use std::test::Fail;
 
 // The answer that the response of a case is.
@@ -31,7 +30,7 @@ fn answer_of(rt: &HostRuntime, case: &str) -> Result<ServerAnswer, Fail> {
 }
 
 // Tells the answer to a command of a kind.
-fn tell_answer<W: Write, E: Write>(
+fn tell_answer<W: Printer, E: Printer>(
     alloc: Global,
     by: &str,
     answer: &ServerAnswer,

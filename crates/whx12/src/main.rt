@@ -1,9 +1,11 @@
 //! The program: one line of words, over a book in a file or as a script.
 #![tactic(auto)]
 
+use gauges::Gauge;
 use running::program;
 use std::process::ExitCode;
 
 fn main(rt: HostRuntime) -> ExitCode {
-    ExitCode::from(program(&rt, &mut rt.stdout(), &mut rt.stderr()))
+    let (mut out, mut err) = (Gauge::new(rt.stdout()), Gauge::new(rt.stderr()));
+    ExitCode::from(program(&rt, &mut out, &mut err))
 }

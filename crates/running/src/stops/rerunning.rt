@@ -9,10 +9,9 @@ ghost use Rattle.running.specs.Rerun.{FindsAnswered, IsLetGo, LeavesBook, Resend
 
 use crate::from_file::{FilesLeft, work_from};
 use crate::over_file::Job;
-use commands::{CommandError, ExitStatus, Verbosity};
+use commands::{CommandError, ExitStatus, Printer, Verbosity};
 use sqlite::{Connection, FileFrom, FileStore, Start};
 use sqlite_disk::Disk;
-use std::io;
 
 // Nothing is told but what has to be.
 const QUIET: Verbosity = Verbosity {
@@ -52,7 +51,7 @@ fn stopped_with<D: Disk + Drop>(stop: CommandError, files: FilesLeft<D>) -> Opti
 
 /// Opens the files of a book, does a job over it, and stops, as a process that is killed then. None
 /// where there was no database in the files, or they couldn't be opened.
-pub fn run_and_stop<S: Start, W: io::Write, E: io::Write>(
+pub fn run_and_stop<S: Start, W: Printer, E: Printer>(
     rt: &HostRuntime,
     file: &str,
     start: S,
@@ -80,7 +79,7 @@ pub fn run_and_stop<S: Start, W: io::Write, E: io::Write>(
 /// the first, and entries of commands that were accepted on it. Where the first was one command and
 /// was done, that is the book with what it answered; and an interchange or an act that it accepted
 /// is answered by the second, when it is given again, by the text that went out for it.
-pub fn run_twice<S: Start, T: Start, W: io::Write, E: io::Write>(
+pub fn run_twice<S: Start, T: Start, W: Printer, E: Printer>(
     rt: &HostRuntime,
     file: &str,
     first: (S, &Job<'_>),

@@ -26,9 +26,10 @@ loop-who-preserved g c =
       shut = i.shut ∙ e.opened;
       enrolled = enrolled_next old now new c.args.partners.now c.loop-who.who-index c.who-item.result c.args.moment _ _ (g.W.Write.contents c.enrol_one.new.out) c.loop-who.status
           c.in_ok-enrol_one.field-0 _ c.and-status.ensures c.loop-who-test.true c.who-item.is i.goes c.enrol_one.ensures.goes i.enrolled e.says e.printed e.done e.keeps;
+      quiet = e.quiet ∙ i.quiet;
     }
 
 pub loop-who-init : goal.loop-who-init
 loop-who-init g c =
     let at = g.K.Keeper.standing c.args.book.now in
-    record { goes = (unchanged_refl at).goes; shut = refl; enrolled = none_enrolled at c.args.moment (g.W.Write.contents c.args.out.now) }
+    record { goes = (unchanged_refl at).goes; shut = refl; enrolled = none_enrolled at c.args.moment (g.W.Write.contents c.args.out.now); quiet = refl }

@@ -11,4 +11,5 @@ invariant-loop-who g l =
       goes : GoesOn old now;
       shut : old.shut ≡ now.shut;
       enrolled : AreEnrolled old now (take l.who-index l.partners) l.fn.moment (g.W.Write.contents l.fn.out) (g.W.Write.contents l.out) l.status;
+      quiet : g.W.Printer.failures l.out ≡ g.W.Printer.failures l.fn.out;
     }

@@ -5,8 +5,8 @@ use Rattle.commands.specs.Stops.{IsDeviceStop}
 use Rattle.commands.proofs.ShownLaws.{given_some, unshown_text}
 use Rattle.commands.proofs.sealing.tell_first.Goals as goal
 
-pub returns-in_err-print : goal.returns-in_err-print
-returns-in_err-print g c =
+pub returns-in_err-print-clause-looked : goal.returns-in_err-print-clause-looked
+returns-in_err-print-clause-looked g c =
     let halted : IfErr c.from_residual-in_err-print.result IsDeviceStop = search rules in
     record {
       shown = search rules;

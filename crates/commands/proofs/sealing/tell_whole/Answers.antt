@@ -11,8 +11,8 @@ use Rattle.commands.proofs.sealing.tell_whole.Goals as goal
 abbrev line_of : ℕ × List ℕ × Option Moment → Shown
 line_of n = (noted_line n, Done)
 
-pub returns-in_err-print : goal.returns-in_err-print
-returns-in_err-print g c =
+pub returns-in_err-print-clause-looked : goal.returns-in_err-print-clause-looked
+returns-in_err-print-clause-looked g c =
     let halted : IfErr c.from_residual-in_err-print.result IsDeviceStop = search rules in
     record {
       shown = search rules;

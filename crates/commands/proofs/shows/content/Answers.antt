@@ -8,6 +8,7 @@ use Rattle.commands.proofs.shows.content.Goals as goal
 pub returns-in-Some : goal.returns-in-Some
 returns-in-Some g c = record {
   said = λ clean L kept legal. on_ok c.tell_content.result (nothing_said (option_map (λ v. v.items)) _ c.in-Some.text _ (g.E.Write.contents c.args.err.now) c.in-Some.is (c.in_ok-text.ensures.text clean L kept legal));
+  caused = search rules;
   looked = record {
     shown = search rules;
     same = search rules;
@@ -20,6 +21,7 @@ returns-in-Some g c = record {
 pub returns-in-None : goal.returns-in-None
 returns-in-None g c = record {
   said = λ clean L kept legal. stranger_said (option_map (λ v. v.items)) _ _ (g.E.Write.contents c.args.err.now) (g.E.Write.contents c.tell_refusal.new.err) c.tell_refusal.result c.in-None.is (c.in_ok-text.ensures.text clean L kept legal) c.tell_refusal.ensures.printed;
+  caused = search rules;
   looked = record {
     shown = search rules;
     same = search rules;

@@ -10,6 +10,7 @@ pub returns-in_err-print : goal.returns-in_err-print
 returns-in_err-print g c =
     let halted : IfErr c.from_residual-in_err-print.result IsDeviceStop = search rules in
     record {
+      caused = search rules;
       looked = record {
         shown = search rules;
         same = search rules;

@@ -8,6 +8,7 @@ use Rattle.commands.proofs.shows.open.Goals as goal
 pub returns-in_ok-print-in-Some : goal.returns-in_ok-print-in-Some
 returns-in_ok-print-in-Some g c = record {
   said = λ clean L kept legal. nothing_said open_on _ c.in-Some.page _ (g.E.Write.contents c.args.err.now) c.in-Some.is (c.in_ok-page.ensures.work clean L kept legal);
+  caused = search rules;
   looked = record {
     shown = λ clean L kept legal.
         open_shown _ c.in-Some.page _ _ _ _ _ c.in-Some.is (c.in_ok-page.ensures.work clean L kept legal) c.in_ok-open_report-in-Some.ensures
@@ -22,6 +23,7 @@ returns-in_err-print-in-Some g c =
     let halted : IfErr c.from_residual-in_err-print-in-Some.result IsDeviceStop = search rules in
     record {
       said = search rules;
+      caused = search rules;
       looked = record {
         shown = search rules;
         same = search rules;
@@ -35,6 +37,7 @@ returns-in_err-print-in-Some g c =
 pub returns-in-None : goal.returns-in-None
 returns-in-None g c = record {
   said = λ clean L kept legal. stranger_said open_on _ _ (g.E.Write.contents c.args.err.now) (g.E.Write.contents c.tell_refusal.new.err) c.tell_refusal.result c.in-None.is (c.in_ok-page.ensures.work clean L kept legal) c.tell_refusal.ensures.printed;
+  caused = search rules;
   looked = record {
     shown = search rules;
     same = search rules;

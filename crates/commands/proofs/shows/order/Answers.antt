@@ -13,6 +13,7 @@ use Rattle.commands.proofs.shows.order.Goals as goal
 pub returns-in_default : goal.returns-in_default
 returns-in_default g c = record {
   said = λ clean L kept legal. why_said (refused_order c.args.number.now None) _ (g.E.Write.contents c.args.err.now) (g.E.Write.contents c.tell_refusal.new.err) c.tell_refusal.result (stranger_why c.args.number.now _ _ _ c.in_default.is (c.in_ok-page.ensures.page clean L kept legal)) c.tell_refusal.ensures.printed;
+  caused = search rules;
   looked = record {
     shown = λ clean L kept legal.
         IfOk-weaker c.tell_refusal.result _ _ (λ status is. subst (λ (k : Shown). IsShown k (g.W.Write.contents c.args.out.now) (g.W.Write.contents c.args.out.now) status)
@@ -32,6 +33,7 @@ returns-in-Ok g c =
     record {
       said = λ clean L kept legal. none_said _ (g.E.Write.contents c.args.err.now) (order_why c.args.number.now _ _ _ _ _ c.in-Some.page (Ok c.in-Ok.sheet.items)
           c.as_bytes.ensures.value c.as_bytes-2.ensures.value c.in_ok-need.ensures c.in-Some.is (c.in_ok-page.ensures.page clean L kept legal) listed);
+      caused = search rules;
       looked = record {
         shown = λ clean L kept legal.
             order_shown c.args.number.now _ _ _ _ _ c.in-Some.page c.in-Ok.sheet.items _ _ _ c.as_bytes.ensures.value c.as_bytes-2.ensures.value
@@ -49,6 +51,7 @@ returns-in_err-print-in-Ok g c =
     let listed = rw c.in-Ok.is at c.in_ok-sheet.ensures.ok in
     record {
       said = search rules;
+      caused = search rules;
       looked = record {
         shown = λ clean L kept legal. IfOk-from_err c.from_residual-in_err-print-in-Ok.result _ c.from_residual-in_err-print-in-Ok.ensures.0;
         same = c.load.ensures.query.reading.same;
@@ -65,6 +68,7 @@ returns g c =
     record {
       said = λ clean L kept legal. why_said (refused_sheet (Err c.in-Err.refusal)) _ (g.E.Write.contents c.args.err.now) (g.E.Write.contents c.tell_refusal-in-Err.new.err) c.tell_refusal-in-Err.result (order_why c.args.number.now _ _ _ _ _ c.in-Some.page (Err c.in-Err.refusal)
           c.as_bytes.ensures.value c.as_bytes-2.ensures.value c.in_ok-need.ensures c.in-Some.is (c.in_ok-page.ensures.page clean L kept legal) refused) c.tell_refusal-in-Err.ensures.printed;
+      caused = search rules;
       looked = record {
         shown = λ clean L kept legal.
             IfOk-weaker c.tell_refusal-in-Err.result _ _ (λ status is. no_order_shown c.args.number.now _ _ _ _ _ c.in-Some.page c.in-Err.refusal _ _

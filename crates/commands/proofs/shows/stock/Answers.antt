@@ -9,6 +9,7 @@ use Rattle.commands.proofs.shows.stock.Goals as goal
 pub returns-in_ok-print-in-Some : goal.returns-in_ok-print-in-Some
 returns-in_ok-print-in-Some g c = record {
   said = λ clean L kept legal. nothing_said (λ v. v.items) _ c.in-Some.rows _ (g.E.Write.contents c.args.err.now) c.in-Some.is (c.in_ok-rows.ensures.rows clean L kept legal);
+  caused = search rules;
   looked = record {
     shown = λ clean L kept legal.
         stock_shown (λ v. v.items) _ c.in-Some.rows c.args.is_csv _ _ _ _ _ _ c.in-Some.is (c.in_ok-rows.ensures.rows clean L kept legal)
@@ -23,6 +24,7 @@ returns-in_err-print-in-Some g c =
     let halted : IfErr c.from_residual-in_err-print-in-Some.result IsDeviceStop = search rules in
     record {
       said = search rules;
+      caused = search rules;
       looked = record {
         shown = search rules;
         same = search rules;
@@ -36,6 +38,7 @@ returns-in_err-print-in-Some g c =
 pub returns-in-None : goal.returns-in-None
 returns-in-None g c = record {
   said = λ clean L kept legal. stranger_said (λ v. v.items) _ _ (g.E.Write.contents c.args.err.now) (g.E.Write.contents c.tell_refusal.new.err) c.tell_refusal.result c.in-None.is (c.in_ok-rows.ensures.rows clean L kept legal) c.tell_refusal.ensures.printed;
+  caused = search rules;
   looked = record {
     shown = search rules;
     same = search rules;

@@ -1,9 +1,11 @@
 use Rattle.std.proofs.Common.{rules, ◌≡◌, ◌∙◌, inl, refl, sym, subst, ℕ, List}
 use Rattle.store.specs.Fault.{Fault}
 use Rattle.store.specs.Runs.{told}
+use Rattle.folders.specs.Answers.{IsBeside}
 use Rattle.folders.specs.Folders.{became_of}
 use Rattle.folders.specs.Handed.{text_of, IsText, IsUntaken}
 use Rattle.folders.specs.Paths.{answer_path, file_path}
+use Rattle.folders.proofs.Handing.{beside_of}
 use Rattle.folders.proofs.Taking.{unread, unsubmitted, unanswered, finish_taken, handed_on}
 use Rattle.folders.proofs.folder.take_file.Goals as goal
 
@@ -54,6 +56,7 @@ returns-in_err-leave_answer-clause-stopped g c =
 pub returns-clause-taken : goal.returns-clause-taken
 returns-clause-taken g c =
     let path = file_path c.args.dir.now c.args.name.now in
+    let reads = g.R.FileSystem.reads c.args.rt.now in
     let writes = g.R.FileSystem.writes c.args.rt.now in
     let lacks = g.R.FileSystem.lacks c.args.rt.now in
     let at : c.deref.result.now ≡ path = search rules in
@@ -65,8 +68,9 @@ returns-clause-taken g c =
       each = record {
         read = subst (λ (p : List ℕ). IsText (g.R.FileSystem.reads c.args.rt.now) p c.deref-2.result.now) at
             (subst (λ (items : List ℕ). IsText (g.R.FileSystem.reads c.args.rt.now) c.deref.result.now items) (sym c.deref-2.ensures.value) c.in_ok-bytes.ensures.read);
-        answered = λ some. subst (writes (answer_path path)) text
-            (subst (λ (p : List ℕ). writes (answer_path p) c.deref-4.result.now) beside (c.in_ok-leave_answer.ensures.written (λ none. some (sym text ∙ none))));
+        answered = λ some. subst (IsBeside reads writes (answer_path path)) text
+            (subst (λ (p : List ℕ). IsBeside reads writes (answer_path p) c.deref-4.result.now) beside
+            (beside_of (g.R.FileSystem.finds c.args.rt.now) reads writes (g.R.FileSystem.fails c.args.rt.now) _ _ (c.in_ok-leave_answer.ensures.written (λ none. some (sym text ∙ none)))));
         unanswered = λ none. subst (λ (p : List ℕ). lacks (answer_path p)) beside (c.in_ok-leave_answer.ensures.removed (text ∙ none));
       };
       replied = λ clean L u. c.in_ok-reply.ensures.reply clean L u.keeps u.legal;

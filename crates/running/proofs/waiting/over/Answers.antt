@@ -4,8 +4,8 @@ use Rattle.running.specs.Ended.{IsJobEnded}
 use Rattle.running.proofs.EndLemmas.{busy_prints_nothing, run_ends}
 use Rattle.running.proofs.waiting.over.Goals as goal
 
-pub returns-then-not-are_in_use : goal.returns-then-not-are_in_use
-returns-then-not-are_in_use g c =
+pub returns-then-not-are_in_use-clause-ended : goal.returns-then-not-are_in_use-clause-ended
+returns-then-not-are_in_use-clause-ended g c =
     let contents = g.W.Write.contents in
     let image = image_at g.S.Start in
     let told = c.told_of.ensures in
