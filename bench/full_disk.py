@@ -128,7 +128,13 @@ def replace(program, folder):
         os.rename(book, f"{folder}/old.book")
         with open(f"{folder}/old.book", "rb") as old, open(book, "wb") as new:
             new.write(old.read())
-        same("it ended", server.process.wait(20), 3)
+        end = time.monotonic() + 20
+        while server.process.poll() is None and time.monotonic() < end:
+            try:
+                same("the answer of a replaced book", once(LOOPBACK, server.port, GET)[1], b"")
+            except OSError:
+                time.sleep(0.2)
+        same("it ended", server.process.poll(), 3)
     finally:
         server.stop()
 
