@@ -6,7 +6,7 @@ ghost use Rattle.commands.specs.Failures.{CountsIf, WasRefused};
 ghost use Rattle.commands.specs.Printing.{AppendsFront, joined};
 
 use gauges::Gauge;
-use std::io::{self, Write};
+use std::io::{self, Stderr, Stdout, Write};
 
 /// Standard output, standard error, and what else a command prints to.
 pub trait Printer: Write {
@@ -37,6 +37,26 @@ impl<W: Write> Printer for Gauge<W> {
 }
 
 impl Printer for Vec<u8> {
+    ghost use Rattle.std.specs.Prelude.{None};
+
+    ghost failures = { λ _. None };
+
+    fn take_some(&mut self, bytes: &[u8]) -> io::Result<usize> {
+        self.write(bytes)
+    }
+}
+
+impl Printer for Stdout {
+    ghost use Rattle.std.specs.Prelude.{None};
+
+    ghost failures = { λ _. None };
+
+    fn take_some(&mut self, bytes: &[u8]) -> io::Result<usize> {
+        self.write(bytes)
+    }
+}
+
+impl Printer for Stderr {
     ghost use Rattle.std.specs.Prelude.{None};
 
     ghost failures = { λ _. None };
