@@ -16,8 +16,10 @@ and acknowledgments, good ones and such as were changed in a byte, an element, a
 resends; counts, picks and recounts with good and bad sheets; reports. The first day that differs is kept
 in a folder, whose name is printed, and the status is then 1.
 """
+import copy
 import os
 import random
+import re
 import subprocess
 import sys
 import tempfile
@@ -45,7 +47,7 @@ IDS = [b"ST", b"SE", b"GS", b"GE", b"IEA", b"TA1", b"ISA", b"W03", b"W04", b"W05
 
 
 # what is asked of a server, and the moment of days that are
-TAKEN = {"send", "count", "pick", "recount", "stock", "orders", "outbox", "open", "depositors"}
+TAKEN = {"send", "count", "pick", "recount", "stock", "advices", "orders", "outbox", "open", "depositors"}
 MOMENT = "2025-03-04T09:15"
 
 
@@ -238,6 +240,20 @@ class Day:
         self.expected, self.errors = self.expected + out, self.errors + told
         self.status = max(self.status, status)
 
+    def tried(self, line, act):
+        """Tries what is done next, now and then: its answer is told, and the book stays as it is."""
+        if self.r.random() < 0.15:
+            out, told, status = act(copy.deepcopy(self.book))
+            # Words and sheets that can't be read are refused before anything is tried.
+            is_read = not re.match("refused 3[0-3] ", told)
+            self.take(line + " --try", (out, told + "tried\n" * is_read, status))
+
+    def sheet_of(self, name, who, number):
+        """Asks for the sheet of an advice or an order, as text or as CSV."""
+        is_csv = self.r.random() < 0.5
+        answer = getattr(self.book, name)(who, number, is_csv)
+        self.take(f"{name} {who.decode()} {number.decode()}" + (" --csv" if is_csv else ""), answer)
+
     def moment(self):
         return MOMENT if self.is_served else f"2025-03-{self.r.randint(1, 28):02d}T{self.r.randint(0, 23):02d}:{self.r.randint(0, 59):02d}"
 
@@ -250,19 +266,21 @@ class Day:
         if kind < 0.45:
             raw = r.choice(self.sent) if self.sent and r.random() < 0.12 else self.interchange(r.choice([b"ACME", b"ACME", b"BETA"]))
             self.sent.append(raw)
-            self.take(f"send {self.file(raw, 'x12')} --at {moment}", self.book.send(raw, moment))
+            line = f"send {self.file(raw, 'x12')} --at {moment}"
+            self.tried(line, lambda book: book.send(raw, moment))
+            self.take(line, self.book.send(raw, moment))
         elif kind < 0.85:
             deed = r.choice(["count", "count", "pick", "pick", "recount"])
             ticket, target, text = self.word([b"T%d" % n for n in range(1, 30)]), self.word(NUMBERS), self.sheet(deed)
             name = self.file(text, "csv")
             words = [deed, who.decode(), ticket.decode()] + ([] if deed == "recount" else [target.decode()]) + [name, "--at", moment]
+            self.tried(" ".join(words), lambda book: book.clerk(deed, who, ticket, target, text, moment))
             self.take(" ".join(words), self.book.clerk(deed, who, ticket, target, text, moment))
         elif kind < 0.9:
             csv = r.random() < 0.4
             self.take(f"stock {who.decode()}" + (" --csv" if csv else ""), self.book.stock(who, csv))
         elif kind < 0.94:
-            number = self.word(NUMBERS)
-            self.take(f"orders {who.decode()} {number.decode()}", self.book.orders(who, number))
+            self.sheet_of(r.choice(["advices", "orders"]), who, self.word(NUMBERS))
         elif kind < 0.96:
             self.take(f"open {who.decode()}", self.book.open(who))
         elif kind < 0.985:
@@ -319,7 +337,8 @@ class Day:
             self.take(f"outbox {who.decode()}", self.book.outbox(who))
             self.take(f"open {who.decode()}", self.book.open(who))
             for number in NUMBERS:
-                self.take(f"orders {who.decode()} {number.decode()}", self.book.orders(who, number))
+                self.sheet_of("advices", who, number)
+                self.sheet_of("orders", who, number)
         self.take("depositors", self.book.depositors())
         with open(os.path.join(self.folder, "script.txt"), "w", encoding="ascii") as file:
             file.write("\n".join(self.script) + "\n")

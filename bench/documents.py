@@ -31,12 +31,12 @@ RUN = {
 }
 # The most words of each page; those of made parts don't count, nor what stands in comments.
 WORDS = {
-    "README.md": 800, "CONTRIBUTING.md": 2200, "CHANGELOG.md": 500, "SECURITY.md": 500, "bench/README.md": 500,
-    "docs/ARCHITECTURE.md": 2400, "docs/DECISIONS.md": 4500, "docs/KIT.md": 645, "docs/OPERATIONS.md": 5800,
-    "docs/PERFORMANCE.md": 1500, "docs/PLAN.md": 900, "docs/PROFILE.md": 9500, "docs/PROMISES.md": 5040,
+    "README.md": 800, "CONTRIBUTING.md": 2200, "CHANGELOG.md": 560, "SECURITY.md": 500, "bench/README.md": 500,
+    "docs/ARCHITECTURE.md": 2400, "docs/DECISIONS.md": 4500, "docs/KIT.md": 645, "docs/OPERATIONS.md": 6100,
+    "docs/PERFORMANCE.md": 1500, "docs/PLAN.md": 900, "docs/PROFILE.md": 9500, "docs/PROMISES.md": 5250,
     "docs/RULES.md": 3100, "docs/UPGRADING.md": 600,
 }
-ALL_WORDS = 34_000
+ALL_WORDS = 34_900
 # Pages that scripts write as a whole.
 MADE = ["docs/WRONG_BODIES.md"]
 TERMS = {r"\bmutants?\b": "wrong body", r"\bthe gate\b": "CI"}
@@ -136,8 +136,8 @@ def wrong_edits():
 
 
 def other_versions():
-    """Pages that name another version than the program's own constant (crates/running/src/run.rt)."""
-    version = re.search(r'VERSION: &str = "whx12 (\S+)\\n"', read("crates/running/src/run.rt"))[1]
+    """Pages that name another version than the program's own constant (crates/app/src/run.rt)."""
+    version = re.search(r'VERSION: &str = "whx12 (\S+)\\n"', read("crates/app/src/run.rt"))[1]
     told = {"README.md": r"^Version ([\d.]+),", "CHANGELOG.md": r"^## (\d\S*)$"}
     for page, pattern in told.items():
         found = re.search(pattern, read(page), re.M)

@@ -33,7 +33,7 @@ RUN = {
 }
 COMMANDS = 200
 NAMES = {"new": "new command", "known": "known command", "mebibyte": "mebibyte of advices"}
-OWN = re.compile(r"^(books|book_tables|book_transactions|book_statements|running|commands|store)::")
+OWN = re.compile(r"^(books|book_tables|book_transactions|book_statements|app|commands|store)::")
 
 
 def counted(words, wanted):

@@ -409,8 +409,7 @@ class Day(compare.Day):
         if what in ("stock", "csv"):
             self.take(f"stock {word.decode()}" + (" --csv" if what == "csv" else ""), self.book.stock(word, what == "csv"))
         elif what == "orders":
-            number = self.number()
-            self.take(f"orders {word.decode()} {number.decode()}", self.book.orders(word, number))
+            self.sheet_of(self.r.choice(["advices", "orders"]), word, self.number())
         elif what == "number":
             number = self.r.randint(1, 12)
             self.take(f"outbox {word.decode()} --number {number}", self.book.outbox(word, number))
@@ -440,7 +439,8 @@ class Day(compare.Day):
             for what in ("stock", "csv", "outbox", "open"):
                 self.look(word_of(who), what)
             for number in NUMBERS:
-                self.take(f"orders {word_of(who).decode()} {number.decode()}", self.book.orders(word_of(who), number))
+                self.sheet_of("advices", word_of(who), number)
+                self.sheet_of("orders", word_of(who), number)
 
     def play(self, program, is_batch=False):
         self.live()

@@ -3,9 +3,9 @@
 
 Usage: bench/layout.py
 
-Each .rt and .antt file is as `rattle fmt` lays it out, where the kit is there. A line of a .rt file has
+Each .rt and .antt file is as `rattle fmt` lays it out, where the kit is there. A line of a .rt file, or of the page's sources, has
 at most 100 characters, of a script 180, imports, attributes, lines with a text in quotes and the
-texts of tests (crates/cases) aside. Each
+texts of tests (crates/case_files) aside. Each
 Python script can be parsed, and each shell script by `sh -n`. No function is longer than 60 lines. What
 departs is told, and the status is 1.
 """
@@ -60,8 +60,8 @@ def unformatted():
 
 
 def main():
-    code = [path for path in files("crates/*.rt") if not path.startswith("crates/cases/")]
-    wrong = [*long_lines(code, MOST_CODE), *long_lines(files("bench/*.py", "*.sh"), MOST_SCRIPT),
+    code = [path for path in files("crates/*.rt") if not path.startswith("crates/case_files/")]
+    wrong = [*long_lines([*code, *files("crates/page/page/*")], MOST_CODE), *long_lines(files("bench/*.py", "*.sh"), MOST_SCRIPT),
              *unread_scripts(), *unformatted()]
     print("\n".join(wrong) or f"{len(files('crates/*.rt', 'crates/*.antt'))} sources are in their layout")
     return 1 if wrong else 0

@@ -721,7 +721,21 @@ class Book:
                 text += "%6d %s %s\n" % (n, kind, page.state(n, function) if function else "-")
         return text.encode(), "", 0
 
-    def orders(self, who, number):
+    def advices(self, who, number, is_csv=False):
+        if partner(who) is not None and not ident(number, 22):
+            return b"", told(32), 1
+        page = self.asked(who)
+        if isinstance(page, int):
+            return b"", told(page), 1
+        found = next((a for _, a in page.of("advised") if a["shipment"] == number), None)
+        refusal = unless_open(found, page.counted(number), 22)
+        if refusal:
+            return b"", told(refusal), 1
+        if is_csv:
+            return b"".join(b"%s,%s,%d\n" % line[:3] for line in found["lines"]), "", 0
+        return b"ADVICE " + number + b"\n" + b"".join(b"%-20s %-12s %6d  ________\n" % line[:3] for line in found["lines"]), "", 0
+
+    def orders(self, who, number, is_csv=False):
         if partner(who) is not None and not ident(number, 22):
             return b"", told(32), 1
         page = self.asked(who)
@@ -731,6 +745,10 @@ class Book:
         refusal = unless_open(found, page.picked(number), 24)
         if refusal:
             return b"", told(refusal), 1
+        if is_csv:
+            reserved = [sorted((pair[1], q) for pair, q in found["shares"] if pair[0] == item and q) for item, _, _ in found["lines"]]
+            lines = [(item, lot, q) for (item, _, _), shares in zip(found["lines"], reserved) for lot, q in shares]
+            return b"".join(b"%s,%s,%d\n" % line for line in lines), "", 0
         text = b"ORDER " + number + b"\n"
         if found["to"]:
             name, lines = found["to"]

@@ -28,19 +28,19 @@ WIDTH, HEIGHT = 900, 692
 Layer = namedtuple("Layer", "title about left top width rows")
 LAYERS = [
     Layer("Definitions", "what contracts cite, and worked examples", 16, 608, 868,
-          ["profile worked_rows"]),
+          ["definitions worked_examples"]),
     Layer("X12 texts", "read, judged, written", 16, 526, 868,
           ["segments envelope group_faults tables sets_in sets_out"]),
     Layer("Goods and rules", "what is decided; no store, no clock", 16, 422, 868,
-          ["repeats rules sets_taken stock goods sheets"]),
+          ["entries rules set_effects stock page_rows sheets"]),
     Layer("The book", "", 158, 290, 158, ["store"]),
     Layer("SQLite", "the book in tables", 430, 290, 330,
-          ["books book_tables ram_disk", "book_transactions book_statements seals"]),
+          ["books book_tables -", "book_transactions book_statements seals"]),
     Layer("Edges", "what comes in, and what people see", 158, 98, 442,
-          ["commands command_line errands -", "folders reports sheet_texts -",
-           "intake doors fields peers gauges"]),
-    Layer("The program", "one line of words, run", 158, 16, 286, ["running whx12"]),
-    Layer("Tests", "", 456, 16, 428, ["cases test_calls test_program"]),
+          ["commands command_line http_client -", "folders reports sheet_texts page",
+           "intake request_guard head_fields peers counted_io"]),
+    Layer("The program", "one line of words, run", 158, 16, 286, ["app whx12"]),
+    Layer("Tests", "", 456, 16, 428, ["case_files test_calls test_program"]),
 ]
 ON_THE_WAY = "commands folders intake store rules books book_tables".split()
 # Where a command comes from: words, and the place of the crate's row among those of the edges.

@@ -19,6 +19,7 @@ Where a head is neither plainly good nor plainly bad, of which RFC 9112 lets a s
 for CR LF, blanks before a field, bytes above 7E), 400 and the other reading are both taken. The status
 is 1 where something differs; the folder is then kept.
 """
+import copy
 import os
 import re
 import shutil
@@ -29,6 +30,7 @@ import tempfile
 
 import compare
 import model
+import page_source
 from lib import Wrong, free_port, knock, option, program_in
 
 RUN = {
@@ -82,6 +84,8 @@ def routed(path):
     """The route of a path with what it names, or None."""
     if path == b"/x12":
         return "x12", ()
+    if path == b"/try/x12":
+        return "tried x12", ()
     for pattern, name in ((rb"/stock/([^/]+)", "stock"), (rb"/outbox/([^/]+)", "outbox"), (rb"/outbox/([^/]+)/([^/]+)", "content")):
         found = re.fullmatch(pattern, path)
         if found:
@@ -91,12 +95,17 @@ def routed(path):
 
 def called(parts):
     """What a clerk asks for at a path of these parts, or None."""
+    if parts[:2] == [b"", b"try"]:
+        found = called([b"", *parts[2:]])
+        return ("tried deed", found[1]) if found and found[0] == "deed" else None
+    if parts == [b"", b""]:
+        return "page", ()
+    if parts[0] == b"" and parts[1:2] in ([b"advices"], [b"orders"]) and (len(parts) == 4 or len(parts) == 5 and parts[4] == b"csv"):
+        return parts[1].decode(), (*parts[2:4], len(parts) == 5)
     if parts[0] == b"" and len(parts) == 5 and parts[1] in (b"count", b"pick"):
         return "deed", (parts[1].decode(), *parts[2:])
     if parts[0] == b"" and len(parts) == 4 and parts[1] == b"recount":
         return "deed", ("recount", *parts[2:], b"")
-    if parts[0] == b"" and len(parts) == 4 and parts[1] == b"orders":
-        return "orders", tuple(parts[2:])
     if parts[0] == b"" and len(parts) == 4 and parts[1] == b"stock" and parts[3] == b"csv":
         return "export", (parts[2],)
     if parts[0] == b"" and len(parts) == 3 and parts[1] == b"open":
@@ -107,7 +116,7 @@ def called(parts):
 
 
 # those to which a body is posted
-POSTED = ("x12", "deed")
+POSTED = ("x12", "deed", "tried x12", "tried deed")
 
 
 # fields that say whether a browser sends a request, and for which page
@@ -176,7 +185,7 @@ def read(raw):
     if len(rest) < int(lengths[0]):
         return ("status", 400), True
     body = rest[:int(lengths[0])]
-    return ("x12", body) if route[0] == "x12" else ("deed", (*route[1], body)), True
+    return (route[0], body if route[0].endswith("x12") else (*route[1], body)), True
 
 
 def response(status, kind=None, body=b"", allow=b""):
@@ -219,7 +228,9 @@ def clerk(book, kind, parts):
     if kind == "export":
         text, told, _ = book.stock(parts[0], True)
         return bare(404) if told else response(200, PLAIN, text)
-    if kind in ("orders", "open", "depositors"):
+    if kind == "page":
+        return page_source.response()
+    if kind in ("advices", "orders", "open", "depositors"):
         text, told, _ = getattr(book, kind)(*parts)
         return refused(told, told.startswith("refused 32 ")) if told else response(200, PLAIN, text)
     deed, who, ticket, number, sheet = parts
@@ -239,9 +250,11 @@ def wanted(book, raw):
             route = routed(head[1])
         allow = b"" if route is None else b"Allow: POST\r\n" if route[0] in POSTED else b"Allow: GET\r\n"
         return [bare(asked[1], allow)], is_sure
+    if kind.startswith("tried "):
+        book, kind = copy.deepcopy(book), kind.removeprefix("tried ")
     if kind == "x12":
         return [exchanged(book, asked[1])], True
-    if kind in ("deed", "orders", "open", "depositors", "export"):
+    if kind in ("deed", "advices", "orders", "open", "depositors", "export", "page"):
         return [clerk(book, kind, asked[1])], True
     who = asked[1][0]
     if kind == "stock":
@@ -280,19 +293,20 @@ class Requests(compare.Day):
     def request(self):
         r = self.r
         method = r.choice([b"POST"] * 6 + [b"GET"] * 5 + [b"PUT", b"HEAD", b"post", b"DELETE", b"G@T"])
-        path = r.choice([b"/x12"] * 6 + [b"/stock/ZZ-ACME", b"/outbox/ZZ-ACME", b"/outbox/ZZ-ACME/1", b"/outbox/ZZ-ACME/01", b"/outbox/ZZ-ACME/99", b"/stock/ZZ-NONE",
+        path = r.choice([b"/x12"] * 6 + [b"/try/x12", b"/stock/ZZ-ACME", b"/outbox/ZZ-ACME", b"/outbox/ZZ-ACME/1", b"/outbox/ZZ-ACME/01", b"/outbox/ZZ-ACME/99", b"/stock/ZZ-NONE",
                                         b"/stock/", b"/", b"/x12/", b"/x12?a=1", b"//x12", b"/stock/ZZ-ACME/1", b"/outbox//1", b"/outbox/ZZ-ACME/1000000", b"*",
                                         b"/stock/%5A%5A-ACME", b"http://localhost/x12", b"/outbox/ZZ-BETA/2"])
         deed = r.choice(["count", "count", "pick", "pick", "recount"]) if CLERKS and r.random() < 0.4 else None
         if deed:
-            path = self.clerk_path(deed)
+            path = (b"/try" if r.random() < 0.2 else b"") + self.clerk_path(deed)
         elif CLERKS and r.random() < 0.2:
             who = self.word([b"ZZ-ACME"])
-            path = r.choice([b"/orders/%s/%s" % (who, self.word(compare.NUMBERS)), b"/stock/%s/csv" % who, b"/orders/%s" % who, b"/stock/%s/txt" % who,
+            sheet = r.choice([b"/advices/%s/%s", b"/advices/%s/%s/csv", b"/orders/%s/%s", b"/orders/%s/%s/csv", b"/orders/%s/%s/txt"])
+            path = r.choice([sheet % (who, self.word(compare.NUMBERS)), b"/try", b"/try/depositors", b"/try/try/x12", b"/stock/%s/csv" % who, b"/orders/%s" % who, b"/stock/%s/txt" % who,
                              b"/open/%s" % who, b"/open/%s" % who, b"/depositors", b"/open", b"/open/%s/x" % who, b"/depositors/", b"/depositors/%s" % who])
         if r.random() < 0.8:
-            method = b"POST" if path == b"/x12" or deed else b"GET"
-        body = self.sheet(deed) if deed else self.body() if path == b"/x12" or r.random() < 0.1 else b""
+            method = b"POST" if path.endswith(b"/x12") or deed else b"GET"
+        body = self.sheet(deed) if deed else self.body() if path.endswith(b"/x12") or r.random() < 0.1 else b""
         host = r.choice([b"Host: localhost"] * 20 + [b"host: LocalHost:8080", b"Host: 127.0.0.1:80", b"Host: [::1]:8080", b"Host: [::1]", b"Host: evil.example",
                                                      b"Host: localhost.evil.example", b"Host: evil.localhost", b"Host: 127.0.0.1.evil.example", b"Host: 127.0.0.256",
                                                      b"Host: localhost:", b"Host: localhost:123456", b"Host:", b"Host: :8080", b"X: no Host"])

@@ -3,8 +3,8 @@
 
 Usage: bench/rules.py
 
-`first_rules_stay` (crates/profile/src/laws.rt) says what rules 1 give wherever rules decide something.
-This lists each definition of crates/profile/specs that names rules 1 or 2, with the clause of that law
+`first_rules_stay` (crates/definitions/src/laws.rt) says what rules 1 give wherever rules decide something.
+This lists each definition of crates/definitions/specs that names rules 1 or 2, with the clause of that law
 that speaks of it, or why none has to. All other definitions only hand rules on. The status is 1 where a
 definition names them that isn't in the list, or one of the list doesn't any more.
 """
@@ -39,7 +39,6 @@ PLACES = {
     "Accepted.IsLegal": "none: a register begins with entries of rules 1",
     "Carried.with_version": "none: what carrying a book over writes",
     "Carried.first_rules_row": "none: what carrying a book over writes",
-    "Movements.most_expected": "none: a bound for both",
     "Readings.first_act": "none: how a recorded act of an entry is read (acts_are_read_by_their_rules)",
     "Schema.schema_named": "none: the tables of version 2 are those of version 1 and two more",
     "Tables.rules_in": "none: reads a row of `entry_rules`",
@@ -52,7 +51,7 @@ def named(path):
     """The definitions of a file that name rules 1 or 2."""
     with open(path, encoding="utf-8") as file:
         lines = file.read().splitlines()
-    if not any(re.match(r"use Rattle\.profile\.specs\.declared\.rules\.Rules\.TheVariants\.", line) for line in lines):
+    if not any(re.match(r"use Rattle\.definitions\.specs\.declared\.rules\.Rules\.TheVariants\.", line) for line in lines):
         return
     module, one = os.path.basename(path)[:-len(".antt")], None
     for line in lines:
@@ -66,7 +65,7 @@ def named(path):
 
 
 def main():
-    found = sorted({name for path in glob.glob(os.path.join(TOP, "crates", "profile", "specs", "*.antt")) for name in named(path)})
+    found = sorted({name for path in glob.glob(os.path.join(TOP, "crates", "definitions", "specs", "*.antt")) for name in named(path)})
     for name in found:
         print(f"{name}: {PLACES.get(name, 'not in the list')}")
     wrong = set(found) ^ set(PLACES)

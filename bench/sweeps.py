@@ -32,7 +32,7 @@ RUN = {
 KEPT = "/opt/rattle-kept"
 CRATE = "test_calls"
 # What the tests use beside the libraries of `test_calls`.
-MORE = "books running sqlite sqlite_disk sqlite_trees"
+MORE = "books app sqlite sqlite_disk sqlite_trees"
 # The texts of `test_program` by which books of version 1 are laid.
 VERSION1 = ["tables.sql", "beside.sql", "counted.sql", "ordered.sql", "dated.sql", "order_head.x12", "order_tail.x12", "order_refused.sql"]
 

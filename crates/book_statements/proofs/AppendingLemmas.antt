@@ -4,16 +4,15 @@ use Rattle.std.specs.Prelude.{if◌then◌else◌, nat_lt}
 use Rattle.std.proofs.lemmas.Bool.{cases_Bool}
 use Rattle.std.proofs.lemmas.Bool.Decides.{nat_tests}
 use Rattle.sqlite.specs.Effect.{Database}
-use Rattle.profile.specs.declared.rules.Rules.{Rules}
-use Rattle.profile.specs.declared.rules.Rules.TheVariants.{Two}
-use Rattle.profile.specs.Rules.{rules_number}
-use Rattle.profile.specs.Header.{Who, who_text}
-use Rattle.profile.specs.Moments.{Moment, stamp}
-use Rattle.profile.specs.Register.{Deed, Enrolled, Received, Performed, Entry, is_numbered, own, next_number}
-use Rattle.profile.specs.Reply.{out}
-use Rattle.profile.specs.Rows.{new_out_row}
-use Rattle.profile.specs.Tables.{Number, Text, Blob, TableRow, AllTables, number_of, entry_row, entry_rules_row, outgoing_row, tables}
-use Rattle.profile.specs.Changes.{Change, Puts, changed_by, with_entry, LeadOn}
+use Rattle.definitions.specs.declared.rules.Rules.{Rules}
+use Rattle.definitions.specs.Rules.{Today, rules_number}
+use Rattle.definitions.specs.Header.{Who, who_text}
+use Rattle.definitions.specs.Moments.{Moment, stamp}
+use Rattle.definitions.specs.Register.{Deed, Enrolled, Received, Performed, Entry, is_numbered, own, next_number}
+use Rattle.definitions.specs.Reply.{out}
+use Rattle.definitions.specs.Rows.{new_out_row}
+use Rattle.definitions.specs.Tables.{Number, Text, Blob, TableRow, AllTables, number_of, entry_row, entry_rules_row, outgoing_row, tables}
+use Rattle.definitions.specs.Changes.{Change, Puts, changed_by, with_entry, LeadOn}
 use Rattle.rules.specs.Written.{Written}
 use Rattle.rules.specs.Tabled.{table_changes}
 use Rattle.rules.specs.Change as stock
@@ -76,14 +75,14 @@ entry_led_on W L e cs seq who row rules moment text a b c d z p m r next first s
 
 -- ---- what an entry that was appended leads to
 
-with_entry_is : (W : Who) (L : List Entry) (e : Entry) (ts : AllTables) → with_entry Two W L e ts ≡ changed_by ts (entry_changes W L e)
+with_entry_is : (W : Who) (L : List Entry) (e : Entry) (ts : AllTables) → with_entry Today W L e ts ≡ changed_by ts (entry_changes W L e)
 with_entry_is W L e ts = elim (cases_Bool (is_numbered e)) [
   | inl counts ↦ rw counts refl
   | inr not_so ↦ rw not_so refl
 ]
 
-pub led_on : (W : Who) (L : List Entry) (e : Entry) (cs : List Change) → LeadOn Two W L e cs → changed_by (tables Two W L) (entry_changes W L e ++ cs) ≡ tables Two W (L ++ e ∷ [])
-led_on W L e cs h = changed_on (tables Two W L) (entry_changes W L e) cs ∙ ap (λ (ts : AllTables). changed_by ts cs) (sym (with_entry_is W L e (tables Two W L))) ∙ h
+pub led_on : (W : Who) (L : List Entry) (e : Entry) (cs : List Change) → LeadOn Today W L e cs → changed_by (tables Today W L) (entry_changes W L e ++ cs) ≡ tables Today W (L ++ e ∷ [])
+led_on W L e cs h = changed_on (tables Today W L) (entry_changes W L e) cs ∙ ap (λ (ts : AllTables). changed_by ts cs) (sym (with_entry_is W L e (tables Today W L))) ∙ h
 
 -- tables with the same rows by their names are the same
 abbrev table_rows : ℕ → AllTables → List TableRow

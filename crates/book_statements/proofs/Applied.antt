@@ -2,11 +2,11 @@
 use Rattle.std.proofs.Common.{◌≡◌, ℕ, List, [], ◌∷◌, ◌++◌, codes, Bool, true, false, None, Some, Option, map, sym, ap, subst}
 use Rattle.std.specs.Prelude.{if◌then◌else◌, option_to_list}
 use Rattle.sqlite.specs.Effect.{Database}
-use Rattle.profile.specs.Header.{Who, who_text}
-use Rattle.profile.specs.Rows.{LotRow}
-use Rattle.profile.specs.Page.{PageAdvice, PageOrder}
-use Rattle.profile.specs.Tables.{Text, stock_cells, advice_cells, advice_line_cells, orders_cells, order_line_cells, reservation_cells}
-use Rattle.profile.specs.Changes.{Change, Puts, SetsState, Frees}
+use Rattle.definitions.specs.Header.{Who, who_text}
+use Rattle.definitions.specs.Rows.{LotRow}
+use Rattle.definitions.specs.Page.{PageAdvice, PageOrder}
+use Rattle.definitions.specs.Tables.{Text, stock_cells, advice_cells, advice_line_cells, orders_cells, order_line_cells, reservation_cells}
+use Rattle.definitions.specs.Changes.{Change, Puts, SetsState, Frees}
 use Rattle.rules.specs.Tabled.{puts_into, row_changes, advice_changes, order_changes}
 use Rattle.book_statements.specs.Leading.{Leads, puts_of}
 use Rattle.book_statements.proofs.LeadingLemmas.{leads_on}

@@ -7,17 +7,17 @@ use Rattle.std.proofs.lemmas.List.Folds.{list_all-append}
 use Rattle.sqlite.specs.declared.types.Value.TheVariants as value
 use Rattle.sqlite.specs.Effect.{Database, IsDatabase}
 use Rattle.sqlite.specs.State.{State, HasCleanDisk, Executes}
-use Rattle.profile.specs.declared.rules.Rules.{Rules}
-use Rattle.profile.specs.declared.rules.Rules.TheVariants.{One, Two}
-use Rattle.profile.specs.Rules.{rules_number}
-use Rattle.profile.specs.Header.{Who}
-use Rattle.profile.specs.Register.{Entry, is_first}
-use Rattle.profile.specs.Tables.{TableRow, Number, book_table, entry_rules_row, entry_rules_table}
-use Rattle.profile.specs.Schema.{entry_rules_schema, put_row}
-use Rattle.profile.specs.Changes.{Puts}
-use Rattle.profile.proofs.TextLaws.{both_parts}
-use Rattle.profile.proofs.RegisterLaws.{first_is, legal-first}
-use Rattle.profile.proofs.CarriedLaws.{legal-carried, lot_expiry-first}
+use Rattle.definitions.specs.declared.rules.Rules.{Rules}
+use Rattle.definitions.specs.declared.rules.Rules.TheVariants.{One, Two}
+use Rattle.definitions.specs.Rules.{rules_number}
+use Rattle.definitions.specs.Header.{Who}
+use Rattle.definitions.specs.Register.{Entry, is_first}
+use Rattle.definitions.specs.Tables.{TableRow, Number, book_table, entry_rules_row, entry_rules_table}
+use Rattle.definitions.specs.Schema.{entry_rules_schema, put_row}
+use Rattle.definitions.specs.Changes.{Puts}
+use Rattle.definitions.proofs.TextLaws.{both_parts}
+use Rattle.definitions.proofs.RegisterLaws.{first_is, legal-first}
+use Rattle.definitions.proofs.CarriedLaws.{legal-carried, lot_expiry-first}
 use Rattle.rules.proofs.SentRows.{entry_rules_put}
 use Rattle.book_statements.specs.Asking.{IsAsked, IsOfFirst}
 use Rattle.book_statements.specs.Carrying.{StandsAs, StandsOpenAs, first_filled, KeepsFirst, Widens, GivesRules, SetsVersion, CarriesOver}

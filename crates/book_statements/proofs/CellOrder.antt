@@ -2,9 +2,9 @@
 use Rattle.std.proofs.Common.{◌≡◌, ◌⊎◌, inl, inr, ℕ, List, [], ◌∷◌, not, ◌&&◌, ◌||◌, Bool, true, false, refl, sym, ap, subst, ◌∙◌, arith}
 use Rattle.std.specs.Prelude.{nat_lt}
 use Rattle.std.proofs.lemmas.Bool.Decides.{nat_tests}
-use Rattle.profile.specs.Bytes.{comes_before}
-use Rattle.profile.specs.Tables.{Cell, Null, Number, Text, Blob}
-use Rattle.profile.specs.Schema.{cell_before, key_before}
+use Rattle.definitions.specs.Bytes.{comes_before}
+use Rattle.definitions.specs.Tables.{Cell, Null, Number, Text, Blob}
+use Rattle.definitions.specs.Schema.{cell_before, key_before}
 use Rattle.std.specs.Ordering.{is_lt, is_eq, ordering_reverse}
 use Rattle.std.proofs.lemmas.Cmp.{nat_list_cmp_total, tied_itself}
 use Rattle.std.specs.declared.cmp.Ordering.{Ordering}

@@ -5,9 +5,9 @@ use Rattle.std.specs.List.{AllByRecursion}
 use Rattle.sqlite.specs.declared.types.Value.TheVariants as value
 use Rattle.sqlite.specs.Table.{Table}
 use Rattle.sqlite.specs.Schema.{Schema}
-use Rattle.profile.specs.declared.rules.Rules.TheVariants.{Two}
-use Rattle.profile.specs.Header.{Who}
-use Rattle.profile.specs.Accepted.{IsLegal}
+use Rattle.definitions.specs.Rules.{Today}
+use Rattle.definitions.specs.Header.{Who}
+use Rattle.definitions.specs.Accepted.{IsLegal}
 use Rattle.book_statements.specs.Held.{Holds, entry_values}
 use Rattle.book_statements.specs.declared.names.TableName.{TableName}
 use Rattle.book_statements.specs.declared.names.TableName.TheVariants as table
@@ -237,7 +237,7 @@ holds_nothing Alone stored none = none
 holds_nothing ByRowid stored none = none
 holds_nothing ByColumns stored none = subst (Holds []) (sym none) holds_none
 
-pub stands_empty : (W : Who) (s : State) → IsLegal Two W [] → HasBook W.qualifier W.id s.now → HasGrown s W []
+pub stands_empty : (W : Who) (s : State) → IsLegal Today W [] → HasBook W.qualifier W.id s.now → HasGrown s W []
 stands_empty W s legal h =
     record {
       stands = record { legal = legal; schema = lies_alone s.now.schema h.schema; rows = by };

@@ -6,9 +6,9 @@ use Rattle.std.specs.Cmp.Derive.{both_true}
 use Rattle.std.specs.List.{list_all}
 use Rattle.std.proofs.lemmas.Bool.{and_parts, cases_Bool}
 use Rattle.sqlite.specs.Order.{Row}
-use Rattle.profile.specs.Rows.{LotRow}
-use Rattle.profile.specs.Tables.{Text, TableRow, expiry_cells}
-use Rattle.profile.proofs.TextLaws.{same_text, text_is}
+use Rattle.definitions.specs.Rows.{LotRow}
+use Rattle.definitions.specs.Tables.{Text, TableRow, expiry_cells}
+use Rattle.definitions.proofs.TextLaws.{same_text, text_is}
 use Rattle.rules.specs.Keyed.{Pair, rises_by, row_key, key_before as pairs_in_order}
 use Rattle.rules.proofs.KeyLemmas.{pairs_strict}
 use Rattle.book_statements.specs.Dated.{Dated, date_shown, dates_of}

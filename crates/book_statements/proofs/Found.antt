@@ -16,12 +16,12 @@ use Rattle.sqlite_value.specs.Order.{value_cmp}
 use Rattle.sqlite_value.proofs.OrderLemmas.{value_cmp-Int}
 use Rattle.sqlite_trees.specs.Tree.{rowid}
 use Rattle.sqlite.proofs.Callers.{one_permutation}
-use Rattle.profile.specs.declared.rules.Rules.{Rules}
-use Rattle.profile.specs.declared.rules.Rules.TheVariants.{One, Two}
-use Rattle.profile.specs.Rules.{rules_number}
-use Rattle.profile.specs.Header.{Who, is_partner}
-use Rattle.profile.specs.Register.{Entry}
-use Rattle.profile.specs.Tables.{entries_on, entry_table, entry_rules_on, book_table}
+use Rattle.definitions.specs.declared.rules.Rules.{Rules}
+use Rattle.definitions.specs.declared.rules.Rules.TheVariants.{One, Two}
+use Rattle.definitions.specs.Rules.{rules_number}
+use Rattle.definitions.specs.Header.{Who, is_partner}
+use Rattle.definitions.specs.Register.{Entry}
+use Rattle.definitions.specs.Tables.{entries_on, entry_table, entry_rules_on, book_table}
 use Rattle.book_statements.specs.Held.{entry_values, first_row}
 use Rattle.book_statements.specs.declared.names.TableName.TheVariants as table
 use Rattle.book_statements.specs.Carrying.{StandsAs}

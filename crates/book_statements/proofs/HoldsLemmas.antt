@@ -14,10 +14,10 @@ use Rattle.sqlite_value.proofs.OrderLemmas.{value_cmp-Int}
 use Rattle.sqlite_rules.specs.Lists.{Has}
 use Rattle.sqlite_rules.proofs.ListLemmas.{has_filtered, has_kept}
 use Rattle.sqlite_rules.proofs.ProbeLemmas.{has_mapped, mapped_has}
-use Rattle.profile.specs.Tables.{Cell, Null, Number, Text, Blob, TableRow}
-use Rattle.profile.specs.Schema as schema
-use Rattle.profile.specs.Schema.{Schema, key_in, outgoing_schema, reservation_schema, key_before}
-use Rattle.profile.specs.Changes.{with_state, is_reserved_for}
+use Rattle.definitions.specs.Tables.{Cell, Null, Number, Text, Blob, TableRow}
+use Rattle.definitions.specs.Schema as schema
+use Rattle.definitions.specs.Schema.{Schema, key_in, outgoing_schema, reservation_schema, key_before}
+use Rattle.definitions.specs.Changes.{with_state, is_reserved_for}
 use Rattle.book_statements.specs.Held.{value_of, values, Holds, entry_values}
 use Rattle.book_statements.specs.Standing.{AreByKey, HasKey, has_key_cells, IsOutgoing, IsBySeq}
 use Rattle.book_statements.specs.Steps.{PutByKey, TakenByKey, SetsState, AreKeyed, key_of, has_key}

@@ -2,8 +2,8 @@
 use Rattle.std.proofs.Common.{◌≡◌, ℕ, zero, suc, ◌+◌, ◌<◌, ◌≤◌, arith, flat_map, List, [], ◌∷◌, ◌++◌, map, drop, length, get_or, drop-cons, add-one, refl, ap, subst, ◌∙◌}
 use Rattle.std.specs.List.{enumerate_from}
 use Rattle.sqlite.specs.Effect.{Database}
-use Rattle.profile.specs.Changes.{Change, changed, changed_by}
-use Rattle.profile.specs.Tables.{AllTables}
+use Rattle.definitions.specs.Changes.{Change, changed, changed_by}
+use Rattle.definitions.specs.Tables.{AllTables}
 use Rattle.book_statements.specs.Standing.{named}
 use Rattle.book_statements.specs.Leading.{Leads}
 

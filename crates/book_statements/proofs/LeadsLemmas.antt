@@ -8,11 +8,11 @@ use Rattle.sqlite.specs.Table.{Table}
 use Rattle.sqlite_rules.specs.Lists.{Has}
 use Rattle.sqlite_rules.proofs.ListLemmas.{all_has}
 use Rattle.sqlite.specs.declared.types.Value.TheVariants as value
-use Rattle.profile.specs.Tables.{TableRow}
-use Rattle.profile.specs.Schema as schema
-use Rattle.profile.specs.Schema.{Schema}
-use Rattle.profile.specs.Changes.{changed_by, Puts, SetsState as Sets, Frees, with_state, is_reserved_for}
-use Rattle.profile.specs.Rows.{state_text}
+use Rattle.definitions.specs.Tables.{TableRow}
+use Rattle.definitions.specs.Schema as schema
+use Rattle.definitions.specs.Schema.{Schema}
+use Rattle.definitions.specs.Changes.{changed_by, Puts, SetsState as Sets, Frees, with_state, is_reserved_for}
+use Rattle.definitions.specs.Rows.{state_text}
 use Rattle.book_statements.specs.declared.names.TableName.{TableName}
 use Rattle.book_statements.specs.declared.names.TableName.TheVariants as table
 use Rattle.book_statements.specs.Held.{values, entry_values}

@@ -4,11 +4,11 @@ use Rattle.sqlite.specs.declared.types.Value.TheVariants as value
 use Rattle.sqlite.specs.Kind.TheVariants as kind
 use Rattle.sqlite.specs.Cast.{cast}
 use Rattle.sqlite.specs.State.{State, Executes}
-use Rattle.profile.specs.Means.{Address}
-use Rattle.profile.specs.Rows.{LotRow, state_text}
-use Rattle.profile.specs.Page.{PageOrder}
-use Rattle.profile.specs.Tables.{Number, Text, Blob, TableRow, flag, text_or_null, address_cells, stock_cells, orders_cells}
-use Rattle.profile.specs.Changes.{Puts, SetsState as Sets, Frees}
+use Rattle.definitions.specs.Means.{Address}
+use Rattle.definitions.specs.Rows.{LotRow, state_text}
+use Rattle.definitions.specs.Page.{PageOrder}
+use Rattle.definitions.specs.Tables.{Number, Text, Blob, TableRow, flag, text_or_null, address_cells, stock_cells, orders_cells}
+use Rattle.definitions.specs.Changes.{Puts, SetsState as Sets, Frees}
 use Rattle.book_statements.specs.Held.{values, value_of}
 use Rattle.book_statements.specs.Layout.{book_trees}
 use Rattle.book_statements.specs.Leading.{Leads, Keeps}

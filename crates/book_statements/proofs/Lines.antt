@@ -1,10 +1,10 @@
 -- The lines of advices and orders, and what is reserved, as changes.
 use Rattle.std.proofs.Common.{◌≡◌, ℕ, List, [], ◌∷◌, map, codes, refl, ap}
 use Rattle.std.specs.List.{enumerate_from}
-use Rattle.profile.specs.Means.{Line}
-use Rattle.profile.specs.Page.{PageAdvice, PageLine, PageOrder}
-use Rattle.profile.specs.Tables.{Text, Number, text_or_null, advice_line_cells, order_line_cells, reservation_cells}
-use Rattle.profile.specs.Changes.{Change, Puts}
+use Rattle.definitions.specs.Means.{Line}
+use Rattle.definitions.specs.Page.{PageAdvice, PageLine, PageOrder}
+use Rattle.definitions.specs.Tables.{Text, Number, text_or_null, advice_line_cells, order_line_cells, reservation_cells}
+use Rattle.definitions.specs.Changes.{Change, Puts}
 use Rattle.book_statements.specs.Leading.{puts_of}
 
 map_twice : {X Y Z : Type 0} (f : Y → Z) (g : X → Y) (xs : List X) → map f (map g xs) ≡ map (λ x. f (g x)) xs

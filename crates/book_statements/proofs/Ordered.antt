@@ -5,19 +5,19 @@ use Rattle.std.specs.List.{list_all, enumerate_from}
 use Rattle.std.proofs.lemmas.Bool.{lt-ltb}
 use Rattle.sqlite_rules.specs.Lists.{Has}
 use Rattle.sqlite_rules.proofs.ProbeLemmas.{has_mapped}
-use Rattle.profile.specs.declared.rules.Rules.{Rules}
-use Rattle.profile.specs.Bytes.{comes_before}
-use Rattle.profile.specs.Moments.{Moment}
-use Rattle.profile.specs.Header.{Who, who_text}
-use Rattle.profile.specs.Means.{Line, Advice, Address}
-use Rattle.profile.specs.Events.{Event, Advised, Ordered, Reserved, pair_before}
-use Rattle.profile.specs.Register.{Deed, Enrolled, Received, Performed, Entry, own, is_numbered, next_number}
-use Rattle.profile.specs.History.{events}
-use Rattle.profile.specs.Rows.{OutRow, named, lot_row, running_rows, out_row, outgoing_on, outgoing_rows}
-use Rattle.profile.specs.Page.{PageAdvice, PageLine, PageOrder, advices_of, orders_of, page_advice, page_order, page_advices, page_orders, reserved_lines}
-use Rattle.profile.specs.Lists.{in_order}
-use Rattle.profile.specs.Tables.{Cell, Number, Text, TableRow, text_or_null, depositors, for_each, entries_on, entry_rules_on, outgoing_cells, outgoing_table, stock_cells, stock_table, advice_cells, advice_rows, advice_table, advice_line_cells, advice_line_rows, advice_line_table, orders_cells, orders_rows, orders_table, order_line_cells, order_line_rows, order_line_table, reservation_cells, reservation_rows, reservation_table, expiry_cells, lot_expiry_table}
-use Rattle.profile.specs.Schema.{Schema, key_before, key_in, entry_schema, entry_rules_schema, outgoing_schema, stock_schema, advice_schema, advice_line_schema, orders_schema, order_line_schema, reservation_schema, lot_expiry_schema}
+use Rattle.definitions.specs.declared.rules.Rules.{Rules}
+use Rattle.definitions.specs.Bytes.{comes_before}
+use Rattle.definitions.specs.Moments.{Moment}
+use Rattle.definitions.specs.Header.{Who, who_text}
+use Rattle.definitions.specs.Means.{Line, Advice, Address}
+use Rattle.definitions.specs.Events.{Event, Advised, Ordered, Reserved, pair_before}
+use Rattle.definitions.specs.Register.{Deed, Enrolled, Received, Performed, Entry, own, is_numbered, next_number}
+use Rattle.definitions.specs.History.{events}
+use Rattle.definitions.specs.Rows.{OutRow, named, lot_row, running_rows, out_row, outgoing_on, outgoing_rows}
+use Rattle.definitions.specs.Page.{PageAdvice, PageLine, PageOrder, advices_of, orders_of, page_advice, page_order, page_advices, page_orders, reserved_lines}
+use Rattle.definitions.specs.Lists.{in_order}
+use Rattle.definitions.specs.Tables.{Cell, Number, Text, TableRow, text_or_null, depositors, for_each, entries_on, entry_rules_on, outgoing_cells, outgoing_table, stock_cells, stock_table, advice_cells, advice_rows, advice_table, advice_line_cells, advice_line_rows, advice_line_table, orders_cells, orders_rows, orders_table, order_line_cells, order_line_rows, order_line_table, reservation_cells, reservation_rows, reservation_table, expiry_cells, lot_expiry_table}
+use Rattle.definitions.specs.Schema.{Schema, key_before, key_in, entry_schema, entry_rules_schema, outgoing_schema, stock_schema, advice_schema, advice_line_schema, orders_schema, order_line_schema, reservation_schema, lot_expiry_schema}
 use Rattle.rules.specs.Keyed.{Pair, rises_by, row_key, shipment_of, number_of, key_before as pairs_in_order}
 use Rattle.rules.proofs.KeyLemmas.{texts_strict, pairs_strict}
 use Rattle.rules.proofs.KeyedLists.{both, order_rises, rises_map}

@@ -2,8 +2,8 @@
 use Rattle.std.proofs.Common.{◌≡◌, ◌≢◌, ◌⊎◌, inl, inr, List, [], ◌∷◌, Bool, true, false, refl, sym, ap, ◌∙◌}
 use Rattle.std.specs.Prelude.{filter, map}
 use Rattle.std.proofs.lemmas.Bool.{cases_Bool}
-use Rattle.profile.specs.Tables.{TableRow, Cell}
-use Rattle.profile.specs.Schema.{Schema, key_before, key_in, put_row, is_by_key}
+use Rattle.definitions.specs.Tables.{TableRow, Cell}
+use Rattle.definitions.specs.Schema.{Schema, key_before, key_in, put_row, is_by_key}
 use Rattle.sqlite_rules.specs.Lists.{Has}
 use Rattle.sqlite_rules.proofs.ListLemmas.{has_filtered}
 use Rattle.sqlite_rules.proofs.ProbeLemmas.{has_mapped}

@@ -8,9 +8,9 @@ use Rattle.std.proofs.lemmas.List.Folds.{list_all-append}
 use Rattle.sqlite_rules.specs.Lists.{Has}
 use Rattle.sqlite_rules.proofs.ListLemmas.{has_either}
 use Rattle.sqlite_rules.proofs.ProbeLemmas.{has_mapped}
-use Rattle.profile.specs.Bytes.{comes_before}
-use Rattle.profile.specs.Tables.{Cell, Null, Number, Text, Blob, TableRow}
-use Rattle.profile.specs.Schema.{Schema, key_before, key_in, is_by_key}
+use Rattle.definitions.specs.Bytes.{comes_before}
+use Rattle.definitions.specs.Tables.{Cell, Null, Number, Text, Blob, TableRow}
+use Rattle.definitions.specs.Schema.{Schema, key_before, key_in, is_by_key}
 use Rattle.rules.specs.Keyed.{rises_by}
 use Rattle.rules.proofs.Texts.{texts_never}
 use Rattle.rules.proofs.KeyedLists.{both}

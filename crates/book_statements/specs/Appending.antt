@@ -1,12 +1,12 @@
 -- What appending an entry changes in the tables, besides what its command changes.
 use Rattle.std.specs.Prelude.{◌≡◌, ℕ, ◌+◌, List, [], ◌∷◌, length, codes, if◌then◌else◌}
-use Rattle.profile.specs.declared.rules.Rules.TheVariants.{Two}
-use Rattle.profile.specs.Header.{Who}
-use Rattle.profile.specs.Register.{Deed, Performed, Entry, is_numbered, own}
-use Rattle.profile.specs.Reply.{out}
-use Rattle.profile.specs.Rows.{new_out_row}
-use Rattle.profile.specs.Tables.{entry_row, entry_rules_row, outgoing_row}
-use Rattle.profile.specs.Changes as tables
+use Rattle.definitions.specs.Rules.{Today}
+use Rattle.definitions.specs.Header.{Who}
+use Rattle.definitions.specs.Register.{Deed, Performed, Entry, is_numbered, own}
+use Rattle.definitions.specs.Reply.{out}
+use Rattle.definitions.specs.Rows.{new_out_row}
+use Rattle.definitions.specs.Tables.{entry_row, entry_rules_row, outgoing_row}
+use Rattle.definitions.specs.Changes as tables
 use Rattle.rules.specs.Written.{Written, written}
 use Rattle.rules.specs.Tabled.{table_changes}
 use Rattle.rules.specs.Change.{Change}
@@ -37,4 +37,4 @@ pub record Appends
   pub next : n ≡ length L + 1
   pub entry : row ≡ written L e
   pub outgoing : text ≡ out W (own L e.who) e
-  pub leads : tables.LeadOn Two W L e (table_changes e.who changes)
+  pub leads : tables.LeadOn Today W L e (table_changes e.who changes)

@@ -7,12 +7,12 @@ use Rattle.sqlite.specs.Schema as sqlite
 use Rattle.sqlite.specs.Effect.{Database, IsDatabase}
 use Rattle.sqlite.specs.State.{State}
 use Rattle.sqlite_catalog.specs.Listing.{IsSound}
-use Rattle.profile.specs.declared.rules.Rules.{Rules}
-use Rattle.profile.specs.declared.rules.Rules.TheVariants.{One, Two}
-use Rattle.profile.specs.Header.{Who}
-use Rattle.profile.specs.Register.{Entry, is_first}
-use Rattle.profile.specs.Accepted.{IsLegal}
-use Rattle.profile.specs.Tables.{book_table, entry_rules_table}
+use Rattle.definitions.specs.declared.rules.Rules.{Rules}
+use Rattle.definitions.specs.declared.rules.Rules.TheVariants.{One, Two}
+use Rattle.definitions.specs.Header.{Who}
+use Rattle.definitions.specs.Register.{Entry, is_first}
+use Rattle.definitions.specs.Accepted.{IsLegal}
+use Rattle.definitions.specs.Tables.{book_table, entry_rules_table}
 use Rattle.book_statements.specs.declared.names.TableName.{TableName}
 use Rattle.book_statements.specs.declared.names.TableName.TheVariants as table
 use Rattle.book_statements.specs.Layout.{IsFirstLayout}

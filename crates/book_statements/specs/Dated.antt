@@ -2,7 +2,7 @@
 use Rattle.std.specs.Prelude.{ℕ, List, [], ◌∷◌, flat_map, map, option_to_list}
 use Rattle.sqlite.specs.declared.types.Value.TheVariants.{Text}
 use Rattle.sqlite.specs.Order.{Row}
-use Rattle.profile.specs.Rows.{LotRow}
+use Rattle.definitions.specs.Rows.{LotRow}
 
 -- a pair with its date
 pub record Dated : Type 0 where

@@ -3,10 +3,10 @@ use Rattle.std.specs.Prelude.{◌≡◌, ℕ, List, [], ◌∷◌, ◌++◌, IsT
 use Rattle.sqlite.specs.Tree.{Trees}
 use Rattle.sqlite.specs.State.{State}
 use Rattle.sqlite.specs.Effect.{IsDatabase}
-use Rattle.profile.specs.declared.rules.Rules.TheVariants.{Two}
-use Rattle.profile.specs.Header.{Who, who_text}
-use Rattle.profile.specs.Register.{Entry}
-use Rattle.profile.specs.Accepted.{IsLegal}
+use Rattle.definitions.specs.Rules.{Today}
+use Rattle.definitions.specs.Header.{Who, who_text}
+use Rattle.definitions.specs.Register.{Entry}
+use Rattle.definitions.specs.Accepted.{IsLegal}
 use Rattle.rules.specs.Written.{Written}
 use Rattle.rules.specs.Change.{Change}
 use Rattle.book_statements.specs.Standing.{StandsSecond, StandsIn, AreOrdered, filled}
@@ -23,7 +23,7 @@ pub record IsAppended
     (changes : List Change) (text : List ℕ) : Type 0 where
   pub stood : StandsWhileOpen s W L
   pub ordered : AreOrdered (filled W L)
-  pub legal : IsLegal Two W (L ++ e ∷ [])
+  pub legal : IsLegal Today W (L ++ e ∷ [])
   pub whose : who ≡ who_text e.who
   pub appends : Appends W L e seq row changes text
 

@@ -5,7 +5,7 @@ use Rattle.sqlite.specs.declared.types.Value.TheVariants as value
 use Rattle.sqlite.specs.Order.{Row}
 use Rattle.sqlite.specs.Tree.{IsTable}
 use Rattle.sqlite_rules.specs.Lists.{Has}
-use Rattle.profile.specs.Tables.{Cell, Null, Number, Text, Blob, TableRow}
+use Rattle.definitions.specs.Tables.{Cell, Null, Number, Text, Blob, TableRow}
 
 abbrev pub value_of : Cell → Value
 value_of Null = value.Null

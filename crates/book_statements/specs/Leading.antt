@@ -1,8 +1,8 @@
 -- Statements that lead from tables to tables as changes of the definitions do.
 use Rattle.std.specs.Prelude.{◌≡◌, ℕ, List, ◌∷◌, map}
 use Rattle.sqlite.specs.Effect.{Database, IsDatabase}
-use Rattle.profile.specs.Changes.{Change, changed_by, Puts}
-use Rattle.profile.specs.Tables.{Text, TableRow}
+use Rattle.definitions.specs.Changes.{Change, changed_by, Puts}
+use Rattle.definitions.specs.Tables.{Text, TableRow}
 use Rattle.book_statements.specs.Layout.{IsLayout, book_trees}
 use Rattle.book_statements.specs.Standing.{Filled, named, TreesHold, AreOrdered}
 

@@ -1,10 +1,10 @@
 -- The rows that are written, from what they are written of.
 use Rattle.std.specs.Prelude.{ℕ, List, [], ◌∷◌}
-use Rattle.profile.specs.declared.rules.Rules.{Rules}
-use Rattle.profile.specs.Rules.{rules_number}
-use Rattle.profile.specs.Means.{Line}
-use Rattle.profile.specs.Page.{PageLine}
-use Rattle.profile.specs.Tables.{TableRow, Text, Number, Blob, text_or_null}
+use Rattle.definitions.specs.declared.rules.Rules.{Rules}
+use Rattle.definitions.specs.Rules.{rules_number}
+use Rattle.definitions.specs.Means.{Line}
+use Rattle.definitions.specs.Page.{PageLine}
+use Rattle.definitions.specs.Tables.{TableRow, Text, Number, Blob, text_or_null}
 use Rattle.rules.specs.Written.{Written}
 
 -- a line of an advice, by its number

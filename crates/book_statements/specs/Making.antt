@@ -5,9 +5,9 @@ use Rattle.sqlite.specs.declared.types.Value.TheVariants.{Int, Text}
 use Rattle.sqlite.specs.Table.{Table}
 use Rattle.sqlite.specs.State.{State}
 use Rattle.sqlite.specs.Effect.{Database, IsDatabase}
-use Rattle.profile.specs.declared.rules.Rules.TheVariants.{Two}
-use Rattle.profile.specs.Header.{Who}
-use Rattle.profile.specs.Accepted.{IsLegal}
+use Rattle.definitions.specs.Rules.{Today}
+use Rattle.definitions.specs.Header.{Who}
+use Rattle.definitions.specs.Accepted.{IsLegal}
 use Rattle.book_statements.specs.Layout.{book_tables, book_trees, first_layouts, layout, no_layout}
 use Rattle.book_statements.specs.Exits.{HasGrown}
 
@@ -25,4 +25,4 @@ pub record HasBook (qualifier id : List ℕ) (db : Database) : Type 0 where
 
 -- where there was no table, the tables stand for the empty register of the warehouse
 abbrev pub Makes : State → State → Who → Type 0
-Makes old new W = IsLegal Two W [] → old.now.schema ≡ no_layout → HasGrown new W []
+Makes old new W = IsLegal Today W [] → old.now.schema ≡ no_layout → HasGrown new W []

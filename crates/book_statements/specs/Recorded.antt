@@ -2,10 +2,10 @@
 use Rattle.std.specs.Prelude.{◌≡◌, ◌<◌, ◌^◌, ℕ, zero, suc, pos, true, List, [], ◌∷◌, Option, None, codes, slice_get}
 use Rattle.sqlite.specs.Order.{Row, column}
 use Rattle.sqlite.specs.declared.types.Value.TheVariants.{Int, Text, Blob}
-use Rattle.profile.specs.declared.rules.Rules.{Rules}
-use Rattle.profile.specs.Rules.{rules_number}
-use Rattle.profile.specs.Header.{Who, is_partner, who_text}
-use Rattle.profile.specs.Moments.{is_moment, stamp}
+use Rattle.definitions.specs.declared.rules.Rules.{Rules}
+use Rattle.definitions.specs.Rules.{rules_number}
+use Rattle.definitions.specs.Header.{Who, is_partner, who_text}
+use Rattle.definitions.specs.Moments.{is_moment, stamp}
 use Rattle.rules.specs.Written.{Written}
 
 -- an entry as its row shows it: who, mark, n, moment and body

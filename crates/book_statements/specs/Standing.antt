@@ -7,12 +7,12 @@ use Rattle.sqlite.specs.Table.{Table}
 use Rattle.sqlite.specs.Order.{Row}
 use Rattle.sqlite_catalog.specs.Listing.{IsSound}
 use Rattle.sqlite_rules.specs.Lists.{Has}
-use Rattle.profile.specs.declared.rules.Rules.TheVariants.{Two}
-use Rattle.profile.specs.Header.{Who}
-use Rattle.profile.specs.Register.{Entry}
-use Rattle.profile.specs.Accepted.{IsLegal}
-use Rattle.profile.specs.Tables.{Null, Number, Text, Blob, TableRow, AllTables, book_table, entry_table, outgoing_table, stock_table, advice_table, advice_line_table, orders_table, order_line_table, reservation_table, entry_rules_table, lot_expiry_table}
-use Rattle.profile.specs.Schema.{Schema, is_by_key, key_in, book_schema, entry_schema, outgoing_schema, stock_schema, advice_schema, advice_line_schema, orders_schema, order_line_schema, reservation_schema, entry_rules_schema, lot_expiry_schema}
+use Rattle.definitions.specs.Rules.{Today}
+use Rattle.definitions.specs.Header.{Who}
+use Rattle.definitions.specs.Register.{Entry}
+use Rattle.definitions.specs.Accepted.{IsLegal}
+use Rattle.definitions.specs.Tables.{Null, Number, Text, Blob, TableRow, AllTables, book_table, entry_table, outgoing_table, stock_table, advice_table, advice_line_table, orders_table, order_line_table, reservation_table, entry_rules_table, lot_expiry_table}
+use Rattle.definitions.specs.Schema.{Schema, is_by_key, key_in, book_schema, entry_schema, outgoing_schema, stock_schema, advice_schema, advice_line_schema, orders_schema, order_line_schema, reservation_schema, entry_rules_schema, lot_expiry_schema}
 use Rattle.book_statements.specs.declared.names.TableName.{TableName}
 use Rattle.book_statements.specs.declared.names.TableName.TheVariants as table
 use Rattle.book_statements.specs.declared.names.TheConstants.{BOOK_TABLES}
@@ -80,7 +80,7 @@ Filled = TableName → List TableRow
 
 -- those of a register
 abbrev pub filled : Who → List Entry → TableName → List TableRow
-filled W L table.Book = book_table Two W
+filled W L table.Book = book_table Today W
 filled W L table.Entry = entry_table L
 filled W L table.Outgoing = outgoing_table W L
 filled W L table.Stock = stock_table L
@@ -113,7 +113,7 @@ TreesHold f db = (t : TableName) → HeldAs (keying_of t) (f t) (db (tree_of t))
 -- the register is legal, and the schema has the book's eleven tables, which hold the rows that the
 -- warehouse's register has
 pub record StandsSecond (W : Who) (L : List Entry) (db : Database) : Type 0 where
-  pub legal : IsLegal Two W L
+  pub legal : IsLegal Today W L
   pub schema : IsLayout db.schema
   pub rows : TreesHold (filled W L) (book_trees db)
 

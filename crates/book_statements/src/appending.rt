@@ -1,7 +1,7 @@
 ghost use Rattle.std.specs.Prelude.{◌≡◌, ◌<◌, ◌^◌, ◌++◌, List, IsTrue};
-ghost use Rattle.profile.specs.Header.{Who as Partner, who_text};
-ghost use Rattle.profile.specs.Register as register;
-ghost use Rattle.profile.specs.Reply.{out};
+ghost use Rattle.definitions.specs.Header.{Who as Partner, who_text};
+ghost use Rattle.definitions.specs.Register as register;
+ghost use Rattle.definitions.specs.Reply.{out};
 ghost use Rattle.rules.specs.Written.{written};
 ghost use Rattle.rules.specs.Tabled.{table_changes};
 ghost use Rattle.book_statements.specs.Appending.{Appends, sent_changes, entry_changes};

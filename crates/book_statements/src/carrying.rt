@@ -7,7 +7,7 @@ use crate::calls::Calls;
 use crate::making::make_fourth;
 use crate::recording::insert_rules;
 use crate::running::run;
-use profile::Rules;
+use definitions::Rules;
 use sqlite::types::ValueRef;
 use sqlite::{Alter, Transaction};
 use store::Fault;

@@ -1,7 +1,7 @@
 ghost use Rattle.std.specs.Prelude.{◌≡◌, codes};
-ghost use Rattle.profile.specs.Header.{Who as Partner, who_text};
+ghost use Rattle.definitions.specs.Header.{Who as Partner, who_text};
 ghost use Rattle.rules.specs.Tabled.{row_changes, advice_changes, order_changes, table_changes_of, table_changes};
-ghost use Rattle.profile.specs.Tables as cells;
+ghost use Rattle.definitions.specs.Tables as cells;
 ghost use Rattle.book_statements.specs.Leading.{Leads, puts_of};
 ghost use Rattle.book_statements.specs.Writing.{WroteIn};
 

@@ -1,9 +1,9 @@
 //! The rows of an entry itself, beside those that its command changes: its own, that of its rules,
 //! and its text with the state of it, which a later acknowledgment sets.
 ghost use Rattle.std.specs.Prelude.{◌≡◌, ◌<◌, ◌^◌, [], ◌∷◌, codes, IsTrue, Some, pos};
-ghost use Rattle.profile.specs.Changes.{Puts, SetsState};
-ghost use Rattle.profile.specs.Rules.{rules_number};
-ghost use Rattle.profile.specs.Rows.{state_text};
+ghost use Rattle.definitions.specs.Changes.{Puts, SetsState};
+ghost use Rattle.definitions.specs.Rules.{rules_number};
+ghost use Rattle.definitions.specs.Rows.{state_text};
 ghost use Rattle.sqlite.specs.declared.types.Value.TheVariants as value;
 ghost use Rattle.sqlite.specs.Values.{bound};
 ghost use Rattle.sqlite.specs.Held.{state};
@@ -14,7 +14,7 @@ ghost use Rattle.book_statements.specs.Writing.{WroteIn};
 
 use crate::calls::Calls;
 use crate::running::run;
-use profile::Rules;
+use definitions::Rules;
 use rules::Entry;
 use sqlite::types::ValueRef;
 use sqlite::{Alter, Transaction};

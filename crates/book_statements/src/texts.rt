@@ -1,5 +1,5 @@
 ghost use Rattle.std.specs.Prelude.{◌≡◌};
-ghost use Rattle.profile.specs.Register.{Deed, deed_mark};
+ghost use Rattle.definitions.specs.Register.{Deed, deed_mark};
 ghost use Rattle.book_statements.specs.Appending.{first_state};
 
 use store::DocumentState;

@@ -1,6 +1,6 @@
 ghost use Rattle.std.specs.Prelude.{◌≡◌, [], ◌∷◌, codes, if◌then◌else◌, IfSome, pos};
-ghost use Rattle.profile.specs.Changes.{Puts, Frees};
-ghost use Rattle.profile.specs.Tables as cells;
+ghost use Rattle.definitions.specs.Changes.{Puts, Frees};
+ghost use Rattle.definitions.specs.Tables as cells;
 ghost use Rattle.sqlite.specs.declared.types.Value.TheVariants as value;
 ghost use Rattle.sqlite.specs.Values.{bound};
 ghost use Rattle.book_statements.specs.Held.{values};

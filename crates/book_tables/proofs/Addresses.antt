@@ -3,9 +3,9 @@ use Rattle.std.proofs.Common.{◌≡◌, ◌<◌, ℕ, zero, suc, Option, Some, 
 use Rattle.sqlite.specs.Order.{Row, column}
 use Rattle.sqlite.specs.declared.types.Value.{Value}
 use Rattle.sqlite.specs.declared.types.Value.TheVariants.{Null, Text}
-use Rattle.profile.specs.Means.{Address}
-use Rattle.profile.specs.Page.{PageOrder}
-use Rattle.profile.specs.Tables.{address_cells, flag, text_or_null}
+use Rattle.definitions.specs.Means.{Address}
+use Rattle.definitions.specs.Page.{PageOrder}
+use Rattle.definitions.specs.Tables.{address_cells, flag, text_or_null}
 use Rattle.book_statements.specs.Held.{value_of, values}
 use Rattle.book_tables.specs.Showing.{AreAt, order_shown}
 

@@ -9,17 +9,17 @@ use Rattle.sqlite.specs.Order.{Row}
 use Rattle.sqlite.specs.Effect.{Database, IsDatabase}
 use Rattle.sqlite.specs.Query.{Output}
 use Rattle.sqlite_rules.specs.Lists.{Has}
-use Rattle.profile.specs.declared.rules.Rules.TheVariants.{Two}
-use Rattle.profile.specs.Header.{Who, is_partner, who_text}
-use Rattle.profile.specs.Means.{Line}
-use Rattle.profile.specs.Register.{Entry, own}
-use Rattle.profile.specs.History.{events}
-use Rattle.profile.specs.Accepted.{IsLegal}
-use Rattle.profile.specs.Page.{PageAdvice, page_advices, page_of}
-use Rattle.profile.specs.Tables.{Text, TableRow, advice_cells, advice_rows, advice_table, advice_line_rows, advice_line_table}
-use Rattle.profile.specs.Schema.{advice_line_schema}
-use Rattle.profile.specs.Bytes.{comes_before}
-use Rattle.profile.proofs.TextLaws.{text_is as bytes_same}
+use Rattle.definitions.specs.Rules.{Today}
+use Rattle.definitions.specs.Header.{Who, is_partner, who_text}
+use Rattle.definitions.specs.Means.{Line}
+use Rattle.definitions.specs.Register.{Entry, own}
+use Rattle.definitions.specs.History.{events}
+use Rattle.definitions.specs.Accepted.{IsLegal}
+use Rattle.definitions.specs.Page.{PageAdvice, page_advices, page_of}
+use Rattle.definitions.specs.Tables.{Text, TableRow, advice_cells, advice_rows, advice_table, advice_line_rows, advice_line_table}
+use Rattle.definitions.specs.Schema.{advice_line_schema}
+use Rattle.definitions.specs.Bytes.{comes_before}
+use Rattle.definitions.proofs.TextLaws.{text_is as bytes_same}
 use Rattle.rules.specs.Keyed.{shipment_of}
 use Rattle.rules.specs.Pages.{advice_at, is_shipment}
 use Rattle.rules.proofs.KeyLemmas.{texts_strict}
@@ -57,7 +57,7 @@ advices L who = page_advices (events (own L who))
 abbrev advised : Who → PageAdvice → TableRow
 advised who a = Text (who_text who) ∷ advice_cells a
 
-advice_under : (W : Who) (L : List Entry) (who : Who) (shipment : List ℕ) → IsLegal Two W L → is_partner who ≡ true
+advice_under : (W : Who) (L : List Entry) (who : Who) (shipment : List ℕ) → IsLegal Today W L → is_partner who ≡ true
     → IsUnder 2 (advised who) 8 advice_columns [] advice_out (value.Text (who_text who)) (value.Text shipment) (advice_table L) (filter (is_shipment shipment) (advices L who))
 advice_under W L who shipment legal partner =
     cells_under W L who legal partner advice_rows refl advice_cells (advices L who) refl (is_shipment shipment) (value.Text shipment) 2 (λ id a. equal_bytes a.shipment shipment)
@@ -100,7 +100,7 @@ line_cells who shipment p = Text (who_text who) ∷ Text shipment ∷ advised_ce
 abbrev its_lines : List Entry → Who → List ℕ → List Line
 its_lines L who shipment = lines_advised (advice_at shipment (page_of (own L who)).advices)
 
-lines_under : (W : Who) (L : List Entry) (who : Who) (shipment : List ℕ) → IsLegal Two W L → is_partner who ≡ true
+lines_under : (W : Who) (L : List Entry) (who : Who) (shipment : List ℕ) → IsLegal Today W L → is_partner who ≡ true
     → IsUnder 2 (line_cells who shipment) 10 line_columns line_order line_out (value.Text (who_text who)) (value.Text shipment) (advice_line_table L) (enumerate_from 1 (its_lines L who shipment))
 lines_under W L who shipment legal partner =
     parts_under W L who legal partner advice_line_rows refl shipment_of (λ (a : PageAdvice). enumerate_from 1 a.lines) advised_cells (advices L who) refl (advices_rise (events (own L who))) shipment
@@ -122,8 +122,8 @@ advised_found W L who shipment db rows partner sound stands h =
     ∙ second_of line_shown 1 (its_lines L who shipment)
 
 pub advised_read : (old : State) (W : Who) (L : List Entry) (who : Who) (shipment : List ℕ) → IsTrue (is_partner who) → IsLive old → StandsWhileOpen old W L → (rows : List Row)
-    → IsTrue old.is_open × Finds advice_lines_text (value.Text (who_text who) ∷ value.Text shipment ∷ []) old.now rows → (read : Option (List Line)) → ((ls : List Line) → list_all (is_fitting_line Two) ls ≡ true → rows ≡ map line_shown ls → read ≡ Some ls)
+    → IsTrue old.is_open × Finds advice_lines_text (value.Text (who_text who) ∷ value.Text shipment ∷ []) old.now rows → (read : Option (List Line)) → ((ls : List Line) → list_all (is_fitting_line Today) ls ≡ true → rows ≡ map line_shown ls → read ≡ Some ls)
     → read ≡ Some (lines_advised (advice_at shipment (page_of (own L who)).advices))
 advised_read old W L who shipment partner live stands rows finds read right =
     let here = stands finds.0 in
-    right _ (advised_fit shipment (page_of (own L who)).advices (page_fits Two W L who here.legal).advices) (advised_found W L who shipment old.now rows partner (live finds.0).0 here finds.1)
+    right _ (advised_fit shipment (page_of (own L who)).advices (page_fits Today W L who here.legal).advices) (advised_found W L who shipment old.now rows partner (live finds.0).0 here finds.1)

@@ -4,9 +4,9 @@ use Rattle.std.specs.Prelude.{◌==◌, IsErrAnd, if◌then◌else◌}
 use Rattle.sqlite.specs.Effect.{Database}
 use Rattle.sqlite.specs.Order.{Row}
 use Rattle.sqlite.specs.State.{State, HasCleanDisk}
-use Rattle.profile.specs.Header.{Who}
-use Rattle.profile.specs.Register.{Entry, own}
-use Rattle.profile.specs.Rows.{stock_rows, stock_of, outbox_rows, outbox_of}
+use Rattle.definitions.specs.Header.{Who}
+use Rattle.definitions.specs.Register.{Entry, own}
+use Rattle.definitions.specs.Rows.{stock_rows, stock_of, outbox_rows, outbox_of}
 use Rattle.store.specs.Fault.{Fault}
 use Rattle.book_statements.specs.Asking.{Finds, IsAsked, IsAskFault}
 use Rattle.book_statements.specs.Exits.{StandsWhileOpen}

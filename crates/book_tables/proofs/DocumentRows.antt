@@ -3,14 +3,14 @@
 use Rattle.std.proofs.Common.{◌≡◌, ◌<◌, ℕ, ◌+◌, Bool, true, false, cond, List, [], ◌∷◌, ◌++◌, Option, None, Some, refl, sym, ap, subst, ◌∙◌, arith}
 use Rattle.std.specs.Prelude.{find, if◌then◌else◌, ◌==◌}
 use Rattle.std.proofs.lemmas.Bool.{ne_eqb, eqb-true}
-use Rattle.profile.specs.declared.rules.Rules.{Rules}
-use Rattle.profile.specs.Moments.{Moment}
-use Rattle.profile.specs.Header.{Who}
-use Rattle.profile.specs.Events.{Event}
-use Rattle.profile.specs.History.{events}
-use Rattle.profile.specs.Page.{PageDocument, sent_by, sent_on, documents_of, page_of}
-use Rattle.profile.specs.Register.{Act, Count, Pick, Recount, Deed, Enrolled, Received, Performed, Entry, is_numbered, next_number}
-use Rattle.profile.specs.Rows.{OutRow, act_kind, act_function, said_of, state_text, out_row, outgoing_on, outgoing_rows}
+use Rattle.definitions.specs.declared.rules.Rules.{Rules}
+use Rattle.definitions.specs.Moments.{Moment}
+use Rattle.definitions.specs.Header.{Who}
+use Rattle.definitions.specs.Events.{Event}
+use Rattle.definitions.specs.History.{events}
+use Rattle.definitions.specs.Page.{PageDocument, sent_by, sent_on, documents_of, page_of}
+use Rattle.definitions.specs.Register.{Act, Count, Pick, Recount, Deed, Enrolled, Received, Performed, Entry, is_numbered, next_number}
+use Rattle.definitions.specs.Rows.{OutRow, act_kind, act_function, said_of, state_text, out_row, outgoing_on, outgoing_rows}
 use Rattle.rules.specs.Pages.{document_at}
 use Rattle.rules.specs.Functions.{function_text}
 use Rattle.rules.specs.Function.{Function}

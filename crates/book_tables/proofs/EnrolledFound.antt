@@ -30,10 +30,10 @@ use Rattle.sqlite_value.proofs.OrderLemmas.{value_cmp-Text}
 use Rattle.sqlite_rules.specs.Lists.{Has}
 use Rattle.sqlite_rules.proofs.ListLemmas.{all_has, has_contained, contains_had, has_filtered}
 use Rattle.sqlite_rules.proofs.ProbeLemmas.{has_mapped, mapped_has}
-use Rattle.profile.specs.Bytes.{comes_before}
-use Rattle.profile.specs.Header.{Who, is_partner, who_text}
-use Rattle.profile.specs.Register.{Entry, own, is_numbered}
-use Rattle.profile.specs.Tables.{entry_row, entries_on, entry_table}
+use Rattle.definitions.specs.Bytes.{comes_before}
+use Rattle.definitions.specs.Header.{Who, is_partner, who_text}
+use Rattle.definitions.specs.Register.{Entry, own, is_numbered}
+use Rattle.definitions.specs.Tables.{entry_row, entries_on, entry_table}
 use Rattle.rules.proofs.Texts.{texts_never}
 use Rattle.book_statements.specs.declared.names.TableName.TheVariants as table
 use Rattle.book_statements.specs.Asking.{Finds, OnlyReads}

@@ -10,10 +10,10 @@ use Rattle.std.proofs.lemmas.Cmp.{nat_cmp_total, on_total}
 use Rattle.std.proofs.lemmas.List.Sorted.{IsPermutation-trans}
 use Rattle.sqlite_trees.specs.Tree.{IsAscending}
 use Rattle.sqlite_rules.specs.Lists.{Has}
-use Rattle.profile.specs.declared.rules.Rules.TheVariants.{Two}
-use Rattle.profile.specs.Header.{Who, is_partner}
-use Rattle.profile.specs.Register.{Entry, own, is_numbered}
-use Rattle.profile.specs.Accepted.{IsLegal}
+use Rattle.definitions.specs.Rules.{Today}
+use Rattle.definitions.specs.Header.{Who, is_partner}
+use Rattle.definitions.specs.Register.{Entry, own, is_numbered}
+use Rattle.definitions.specs.Accepted.{IsLegal}
 use Rattle.rules.specs.Played.{CanFollow}
 use Rattle.rules.proofs.Depositors.{partner_of}
 use Rattle.rules.proofs.Follows.{can_follow}
@@ -130,11 +130,11 @@ apart_along before n (e ∷ L) along = by (is_numbered e) (apart_along (before +
       later,
     )
 
-follows : (W : Who) (L : List Entry) → IsLegal Two W L → Along CanFollow [] L
-follows W L legal = along_legal Two W CanFollow L (λ q K c t given now a. can_follow q W K c t given now a) legal
+follows : (W : Who) (L : List Entry) → IsLegal Today W L → Along CanFollow [] L
+follows W L legal = along_legal Today W CanFollow L (λ q K c t given now a. can_follow q W K c t given now a) legal
 
-pub enrolled_apart : (W : Who) (L : List Entry) → IsLegal Two W L → AreApart (enrolments L)
+pub enrolled_apart : (W : Who) (L : List Entry) → IsLegal Today W L → AreApart (enrolments L)
 enrolled_apart W L legal = apart_along [] 0 L (follows W L legal)
 
-pub enrolled_partner : (W : Who) (L : List Entry) → IsLegal Two W L → (x : EnrolmentFacts) → Has (enrolments L) x → is_partner x.who ≡ true
+pub enrolled_partner : (W : Who) (L : List Entry) → IsLegal Today W L → (x : EnrolmentFacts) → Has (enrolments L) x → is_partner x.who ≡ true
 enrolled_partner W L legal = all_partners [] 0 L (follows W L legal)

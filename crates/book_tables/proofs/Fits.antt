@@ -5,15 +5,15 @@ use Rattle.std.proofs.lemmas.Bool.{and_parts, leb-true}
 use Rattle.std.specs.List.{list_all}
 use Rattle.std.specs.Cmp.Derive.{both_true}
 use Rattle.sqlite_rules.specs.Lists.{Has}
-use Rattle.profile.specs.declared.rules.Rules.{Rules}
-use Rattle.profile.specs.declared.rules.Rules.TheVariants.{One, Two}
-use Rattle.profile.specs.Rules.{may_follow}
-use Rattle.profile.specs.Limits.{most_entries, most_lines, most_quantity}
-use Rattle.profile.specs.Means.{Line}
-use Rattle.profile.specs.Page.{PageAdvice, PageLine, PageOrder, page_of}
-use Rattle.profile.specs.History.{events}
-use Rattle.profile.specs.Register.{Entry}
-use Rattle.profile.specs.Rows.{LotRow}
+use Rattle.definitions.specs.declared.rules.Rules.{Rules}
+use Rattle.definitions.specs.declared.rules.Rules.TheVariants.{One, Two}
+use Rattle.definitions.specs.Rules.{may_follow}
+use Rattle.definitions.specs.Limits.{most_entries, most_lines, most_quantity}
+use Rattle.definitions.specs.Means.{Line}
+use Rattle.definitions.specs.Page.{PageAdvice, PageLine, PageOrder, page_of}
+use Rattle.definitions.specs.History.{events}
+use Rattle.definitions.specs.Register.{Entry}
+use Rattle.definitions.specs.Rows.{LotRow}
 use Rattle.rules.specs.Pages.{advice_at, is_number, is_shipment, order_at}
 use Rattle.rules.specs.Fitting.{is_fitting_advice, is_fitting_line, is_fitting_order, is_fitting_ordered, is_fitting_row}
 use Rattle.rules.proofs.Fits.{advices_fit}

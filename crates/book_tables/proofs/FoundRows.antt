@@ -7,11 +7,11 @@ use Rattle.sqlite.specs.State.{State, IsLive}
 use Rattle.sqlite.specs.declared.types.Value.TheVariants as value
 use Rattle.sqlite.specs.Order.{Row}
 use Rattle.sqlite.specs.Effect.{Database, IsDatabase}
-use Rattle.profile.specs.declared.rules.Rules.TheVariants.{Two}
-use Rattle.profile.specs.Header.{Who, is_partner, who_text}
-use Rattle.profile.specs.Register.{Entry, own}
-use Rattle.profile.specs.History.{events}
-use Rattle.profile.specs.Rows.{LotRow, OutRow, running_rows, outgoing_rows, outbox_rows}
+use Rattle.definitions.specs.Rules.{Today}
+use Rattle.definitions.specs.Header.{Who, is_partner, who_text}
+use Rattle.definitions.specs.Register.{Entry, own}
+use Rattle.definitions.specs.History.{events}
+use Rattle.definitions.specs.Rows.{LotRow, OutRow, running_rows, outgoing_rows, outbox_rows}
 use Rattle.rules.specs.Keyed.{rises_by, row_key, key_before as pairs_in_order}
 use Rattle.rules.specs.Fitting.{is_fitting_row}
 use Rattle.rules.proofs.Fits.{page_fits}
@@ -59,7 +59,7 @@ pub stock_read : (old mid : State) (W : Who) (L : List Entry) (who : Who) → Is
     → read ≡ Some (running_rows (events (own L who)))
 stock_read old mid W L who partner live mid_live stands mid_stands rows dates finds dated read right =
     let here = stands finds.0 in
-    right (running_rows (events (own L who))) ((page_fits Two W L who here.legal).rows) (lots_rise (events (own L who))) (all_lots_found W L who old.now rows partner (live finds.0).0 here finds.1)
+    right (running_rows (events (own L who))) ((page_fits Today W L who here.legal).rows) (lots_rise (events (own L who))) (all_lots_found W L who old.now rows partner (live finds.0).0 here finds.1)
     (dates_found W L who mid.now dates partner (mid_live dated.0).0 (mid_stands dated.0) dated.1)
 
 module _ (old : State) (W : Who) (L : List Entry) (who : Who) (partner : IsTrue (is_partner who)) (live : IsLive old) (stands : StandsWhileOpen old W L) (text : List ℕ) (told : text ≡ who_text who) (rows : List Row) where

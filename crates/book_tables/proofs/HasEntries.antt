@@ -17,13 +17,13 @@ use Rattle.sqlite.specs.Tree.{Trees}
 use Rattle.sqlite.specs.State.{State}
 use Rattle.sqlite_value.proofs.OrderLemmas.{value_cmp-Text}
 use Rattle.sqlite_schema.specs.Rules.{equal}
-use Rattle.profile.specs.declared.rules.Rules.TheVariants.{Two}
-use Rattle.profile.specs.Header.{Who, is_partner, who_eq, who_text}
-use Rattle.profile.specs.Register.{Entry, own}
-use Rattle.profile.specs.Readings.{is_entry}
-use Rattle.profile.specs.Tables.{entry_row, entries_on, entry_table}
-use Rattle.profile.proofs.RegisterLaws.{legal-entries}
-use Rattle.profile.proofs.TextLaws.{both_parts}
+use Rattle.definitions.specs.Rules.{Today}
+use Rattle.definitions.specs.Header.{Who, is_partner, who_eq, who_text}
+use Rattle.definitions.specs.Register.{Entry, own}
+use Rattle.definitions.specs.Readings.{is_entry}
+use Rattle.definitions.specs.Tables.{entry_row, entries_on, entry_table}
+use Rattle.definitions.proofs.RegisterLaws.{legal-entries}
+use Rattle.definitions.proofs.TextLaws.{both_parts}
 use Rattle.rules.proofs.Depositors.{partner_of}
 use Rattle.book_statements.specs.declared.names.TableName.TheVariants as table
 use Rattle.book_statements.specs.Asking.{Finds}
@@ -97,4 +97,4 @@ none_read old W L who partner stands text told rows finds =
     let held = here.rows in
     let h = subst (λ t. Finds has_text (value.Text t ∷ []) old.now rows) told finds.1 in
     let read = found has_text (value.Text (who_text who) ∷ []) old.now rows _ here.schema has_reads has_is h in
-    none_shown who L old.now.trees rows (legal-entries Two W L here.legal) partner (held table.Entry) (read.answer value.Null)
+    none_shown who L old.now.trees rows (legal-entries Today W L here.legal) partner (held table.Entry) (read.answer value.Null)

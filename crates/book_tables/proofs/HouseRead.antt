@@ -3,9 +3,9 @@ use Rattle.std.proofs.Common.{◌≡◌, ℕ, pos, List, [], ◌∷◌, get_or, 
 use Rattle.std.specs.Prelude.{if◌then◌else◌}
 use Rattle.sqlite.specs.Order.{Row, column}
 use Rattle.sqlite.specs.declared.types.Value.TheVariants.{Int, Text}
-use Rattle.profile.specs.declared.rules.Rules.{Rules}
-use Rattle.profile.specs.Header.{Who, is_partner}
-use Rattle.profile.specs.Rules.{rules_number}
+use Rattle.definitions.specs.declared.rules.Rules.{Rules}
+use Rattle.definitions.specs.Header.{Who, is_partner}
+use Rattle.definitions.specs.Rules.{rules_number}
 use Rattle.book_statements.specs.Recorded.{IsHouse}
 use Rattle.book_tables.proofs.ReadLemmas.{none_some, same_some, same_text_value}
 

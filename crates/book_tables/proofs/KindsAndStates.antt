@@ -3,8 +3,8 @@
 use Rattle.std.proofs.Common.{◌≡◌, ◌≢◌, ◌∙◌, ℕ, Bool, true, false, None, Some, Option, refl, ap}
 use Rattle.sqlite.specs.Order.{Row, column}
 use Rattle.sqlite.specs.declared.types.Value.TheVariants.{Text}
-use Rattle.profile.specs.Page.{PageDocument}
-use Rattle.profile.specs.Rows.{OutRow, state_text}
+use Rattle.definitions.specs.Page.{PageDocument}
+use Rattle.definitions.specs.Rows.{OutRow, state_text}
 use Rattle.rules.specs.Function.{Function}
 use Rattle.rules.specs.Kinds.{kind_text}
 use Rattle.rules.specs.OutKind.{OutKind}

@@ -24,16 +24,16 @@ use Rattle.sqlite_schema.specs.Rules.{equal}
 use Rattle.sqlite_rules.specs.Lists.{Has}
 use Rattle.sqlite_rules.proofs.ListLemmas.{all_has, has_filtered, has_kept, has_contained, contains_had}
 use Rattle.sqlite_rules.proofs.ProbeLemmas.{has_mapped, mapped_has}
-use Rattle.profile.specs.declared.rules.Rules.TheVariants.{Two}
-use Rattle.profile.specs.Header.{Who, is_partner, who_text}
-use Rattle.profile.specs.Register.{Entry, own, is_numbered, next_number}
-use Rattle.profile.specs.Events.{Event}
-use Rattle.profile.specs.History.{history, events}
-use Rattle.profile.specs.Page.{page_of}
-use Rattle.profile.specs.Accepted.{IsLegal}
-use Rattle.profile.specs.Rows.{OutRow, out_row, outgoing_on, outgoing_rows}
-use Rattle.profile.specs.Tables.{Text, TableRow, outgoing_cells, outgoing_table}
-use Rattle.profile.proofs.HistoryLaws.{history-numbered}
+use Rattle.definitions.specs.Rules.{Today}
+use Rattle.definitions.specs.Header.{Who, is_partner, who_text}
+use Rattle.definitions.specs.Register.{Entry, own, is_numbered, next_number}
+use Rattle.definitions.specs.Events.{Event}
+use Rattle.definitions.specs.History.{history, events}
+use Rattle.definitions.specs.Page.{page_of}
+use Rattle.definitions.specs.Accepted.{IsLegal}
+use Rattle.definitions.specs.Rows.{OutRow, out_row, outgoing_on, outgoing_rows}
+use Rattle.definitions.specs.Tables.{Text, TableRow, outgoing_cells, outgoing_table}
+use Rattle.definitions.proofs.HistoryLaws.{history-numbered}
 use Rattle.rules.proofs.SentRows.{next_snoc}
 use Rattle.book_statements.specs.Asking.{OnlyReads, Finds}
 use Rattle.book_statements.specs.Exits.{StandsWhileOpen}
@@ -146,7 +146,7 @@ abbrev pub IsLast : List Row → ℕ → Type 0
 IsLast [] n = n ≡ 0
 IsLast (row ∷ more) n = row ≡ value.Int (pos n) ∷ []
 
-module _ (W : Who) (L : List Entry) (who : Who) (legal : IsLegal Two W L) (partner : is_partner who ≡ true) (db : Trees) (held : Holds (outgoing_table W L) (db 4)) where
+module _ (W : Who) (L : List Entry) (who : Who) (legal : IsLegal Today W L) (partner : is_partner who ≡ true) (db : Trees) (held : Holds (outgoing_table W L) (db 4)) where
   abbrev t : List ℕ
   t = who_text who
 

@@ -5,11 +5,11 @@ use Rattle.std.proofs.lemmas.List.Elements.{filter-append}
 use Rattle.sqlite.specs.Order.{Row}
 use Rattle.sqlite.specs.State.{State}
 use Rattle.sqlite.specs.declared.types.Value.TheVariants as value
-use Rattle.profile.specs.Decision.{recalled}
-use Rattle.profile.specs.Header.{Who, is_partner, who_eq, who_text}
-use Rattle.profile.specs.Register.{Entry, mark, own, is_numbered, next_number}
-use Rattle.profile.specs.Reply.{out}
-use Rattle.profile.proofs.TextLaws.{both_parts}
+use Rattle.definitions.specs.Decision.{recalled}
+use Rattle.definitions.specs.Header.{Who, is_partner, who_eq, who_text}
+use Rattle.definitions.specs.Register.{Entry, mark, own, is_numbered, next_number}
+use Rattle.definitions.specs.Reply.{out}
+use Rattle.definitions.proofs.TextLaws.{both_parts}
 use Rattle.rules.specs.Decided.{IsRecalled}
 use Rattle.rules.specs.Written.{Written}
 use Rattle.store.specs.Replayed.{all_written, is_under}

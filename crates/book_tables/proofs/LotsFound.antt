@@ -6,15 +6,15 @@ use Rattle.sqlite.specs.State.{State, IsLive}
 use Rattle.sqlite.specs.declared.types.Value.TheVariants as value
 use Rattle.sqlite.specs.Order.{Row}
 use Rattle.sqlite.specs.Effect.{Database, IsDatabase}
-use Rattle.profile.specs.declared.rules.Rules.TheVariants.{Two}
-use Rattle.profile.specs.Header.{Who, is_partner, who_text}
-use Rattle.profile.specs.Register.{Entry, own}
-use Rattle.profile.specs.History.{events}
-use Rattle.profile.specs.Accepted.{IsLegal}
-use Rattle.profile.specs.Page.{page_of}
-use Rattle.profile.specs.Rows.{LotRow, running_rows}
-use Rattle.profile.specs.Tables.{Text, TableRow, stock_cells, stock_table, expiry_cells, lot_expiry_table}
-use Rattle.profile.specs.Schema.{stock_schema, lot_expiry_schema}
+use Rattle.definitions.specs.Rules.{Today}
+use Rattle.definitions.specs.Header.{Who, is_partner, who_text}
+use Rattle.definitions.specs.Register.{Entry, own}
+use Rattle.definitions.specs.History.{events}
+use Rattle.definitions.specs.Accepted.{IsLegal}
+use Rattle.definitions.specs.Page.{page_of}
+use Rattle.definitions.specs.Rows.{LotRow, running_rows}
+use Rattle.definitions.specs.Tables.{Text, TableRow, stock_cells, stock_table, expiry_cells, lot_expiry_table}
+use Rattle.definitions.specs.Schema.{stock_schema, lot_expiry_schema}
 use Rattle.rules.specs.Keyed.{rises_by, row_key, key_before as pairs_in_order}
 use Rattle.std.specs.List.{list_all}
 use Rattle.rules.specs.Fitting.{is_fitting_row}
@@ -44,7 +44,7 @@ use Rattle.book_statements.proofs.UpsertLemmas.{only_row}
 abbrev lot_cells : Who → LotRow → TableRow
 lot_cells who r = Text (who_text who) ∷ stock_cells r
 
-lots_under : (W : Who) (L : List Entry) (who : Who) (item : List ℕ) → IsLegal Two W L → is_partner who ≡ true
+lots_under : (W : Who) (L : List Entry) (who : Who) (item : List ℕ) → IsLegal Today W L → is_partner who ≡ true
     → IsUnder 2 (lot_cells who) 6 lots_columns pair_order lot_out (value.Text (who_text who)) (value.Text item) (stock_table L) (filter (λ r. bytes_eq r.item item) (running_rows (events (own L who))))
 lots_under W L who item legal partner =
     cells_under W L who legal partner (λ M. map stock_cells (running_rows (events M))) refl stock_cells (running_rows (events (own L who))) refl (λ r. bytes_eq r.item item) (value.Text item) 2 (λ id m. equal_bytes m.item item)
@@ -91,7 +91,7 @@ dates_kept item (r ∷ rows) = by r.expiry (bytes_eq r.item item) refl (dates_ke
 abbrev of_item : List ℕ → List LotRow → List Dated
 of_item item rows = filter (λ (d : Dated). bytes_eq d.item item) (dates_of rows)
 
-dates_under : (W : Who) (L : List Entry) (who : Who) (item : List ℕ) → IsLegal Two W L → is_partner who ≡ true
+dates_under : (W : Who) (L : List Entry) (who : Who) (item : List ℕ) → IsLegal Today W L → is_partner who ≡ true
     → IsUnder 2 (λ (d : Dated). Text (who_text who) ∷ date_cells d) 19 dates_columns pair_order date_out (value.Text (who_text who)) (value.Text item) (lot_expiry_table L) (of_item item (running_rows (events (own L who))))
 dates_under W L who item legal partner =
     cells_under W L who legal partner (λ M. flat_map expiry_cells (running_rows (events M))) refl date_cells (dates_of (running_rows (events (own L who)))) (dates_in (running_rows (events (own L who))))
@@ -121,6 +121,6 @@ pub lots_read : (old mid : State) (W : Who) (L : List Entry) (who : Who) (item :
     → read ≡ Some (filter (λ r. bytes_eq r.item item) (page_of (own L who)).rows)
 lots_read old mid W L who item partner live mid_live stands mid_stands rows dates finds dated read right =
     let here = stands finds.0 in
-    right _ (all_filter is_fitting_row (λ (r : LotRow). bytes_eq r.item item) (page_of (own L who)).rows ((page_fits Two W L who here.legal).rows))
+    right _ (all_filter is_fitting_row (λ (r : LotRow). bytes_eq r.item item) (page_of (own L who)).rows ((page_fits Today W L who here.legal).rows))
     (rises_kept pairs_in_order row_key (λ r. bytes_eq r.item item) (running_rows (events (own L who))) (lots_rise (events (own L who))))
     (lots_found W L who item old.now rows partner (live finds.0).0 here finds.1) (dates_found W L who item mid.now dates partner (mid_live dated.0).0 (mid_stands dated.0) dated.1)

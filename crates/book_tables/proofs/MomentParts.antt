@@ -4,8 +4,8 @@ use Rattle.std.specs.Prelude.{OkIff, is_ok}
 use Rattle.std.specs.Int.{FitsUnsignedBits}
 use Rattle.std.specs.Result.{result_ok}
 use Rattle.std.proofs.lemmas.Bool.{cases_Bool}
-use Rattle.profile.specs.Moments.{Moment, is_moment}
-use Rattle.profile.proofs.ReadingLaws.{IsShort, is_moment-short}
+use Rattle.definitions.specs.Moments.{Moment, is_moment}
+use Rattle.definitions.proofs.ReadingLaws.{IsShort, is_moment-short}
 use Rattle.book_tables.proofs.ReadLemmas.{none_some, same_some}
 
 module _ {E : Type 0} (r : Result ℕ E) (bits n : ℕ) where

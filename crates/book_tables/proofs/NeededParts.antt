@@ -4,15 +4,15 @@ use Rattle.std.specs.Prelude.{bytes_eq, if◌then◌else◌}
 use Rattle.std.proofs.lemmas.Bool.{cases_Bool, eqb-true}
 use Rattle.std.proofs.lemmas.List.Folds.{list_any-append}
 use Rattle.std.proofs.lemmas.Slice.Eq.{bytes_eq-Decides}
-use Rattle.profile.specs.declared.rules.Rules.TheVariants.{Two}
-use Rattle.profile.specs.Accepted.{IsLegal}
-use Rattle.profile.specs.Bytes.{is_one_of}
-use Rattle.profile.specs.Decision.{standing}
-use Rattle.profile.specs.Header.{Who}
-use Rattle.profile.specs.History.{History, history}
-use Rattle.profile.specs.Need.{Need, is_number_of, part}
-use Rattle.profile.specs.Page.{page_of}
-use Rattle.profile.specs.Register.{Entry, own}
+use Rattle.definitions.specs.Rules.{Today}
+use Rattle.definitions.specs.Accepted.{IsLegal}
+use Rattle.definitions.specs.Bytes.{is_one_of}
+use Rattle.definitions.specs.Decision.{standing}
+use Rattle.definitions.specs.Header.{Who}
+use Rattle.definitions.specs.History.{History, history}
+use Rattle.definitions.specs.Need.{Need, is_number_of, part}
+use Rattle.definitions.specs.Page.{page_of}
+use Rattle.definitions.specs.Register.{Entry, own}
 use Rattle.rules.specs.Pages.{IsSound, PageFacts}
 use Rattle.rules.specs.Parts.{Named}
 use Rattle.rules.proofs.PageLemmas.{blank_sound}
@@ -80,10 +80,10 @@ numbers_none n = λ i. record n { documents = λ j. or_false (n.documents j) i }
 
 -- The page of a depositor of a legal register.
 
-legal_is : (W : Who) (L : List Entry) (w : Who) (h : History) → IsLegal Two W L → standing (own L w) ≡ Some h → h ≡ history (own L w) → IsLegalPage (facts_of (page_of (own L w))) h
+legal_is : (W : Who) (L : List Entry) (w : Who) (h : History) → IsLegal Today W L → standing (own L w) ≡ Some h → h ≡ history (own L w) → IsLegalPage (facts_of (page_of (own L w))) h
 legal_is W L w h legal is same =
-    let page = legal_page Two W L w h legal is in
-    let defined = page_is_defined Two W L w page.0 legal page.1.sound.sorted (subst (IsPageOf page.0) same page.1.page) in
+    let page = legal_page Today W L w h legal is in
+    let defined = page_is_defined Today W L w page.0 legal page.1.sound.sorted (subst (IsPageOf page.0) same page.1.page) in
     subst (λ (p : PageFacts). IsLegalPage p h) (defined_is page.0 (page_of (own L w)) page.1.rest defined) page.1
 
 some_entries : (k : Entry) (M : List Entry) → (length (k ∷ M) == 0) ≡ false
@@ -92,7 +92,7 @@ some_entries k M = elim (cases_Bool (length (k ∷ M) == 0)) [
   | inr e ↦ e
 ]
 
-pub sound_page : (W : Who) (L : List Entry) (w : Who) → IsLegal Two W L → IsSound (facts_of (page_of (own L w)))
+pub sound_page : (W : Who) (L : List Entry) (w : Who) → IsLegal Today W L → IsSound (facts_of (page_of (own L w)))
 sound_page W L w legal = by (own L w) refl
   where
     by : (M : List Entry) → own L w ≡ M → IsSound (facts_of (page_of (own L w)))
@@ -103,7 +103,7 @@ sound_page W L w legal = by (own L w) refl
         (legal_is W L w (history (own L w)) legal some refl).sound
 
 -- what is needed of it is a page
-pub sound_part : (W : Who) (L : List Entry) (w : Who) (need : Need) → IsLegal Two W L → IsSound (facts_of (part (page_of (own L w)) need))
+pub sound_part : (W : Who) (L : List Entry) (w : Who) (need : Need) → IsLegal Today W L → IsSound (facts_of (part (page_of (own L w)) need))
 sound_part W L w need legal =
     let P = facts_of (page_of (own L w)) in
     let sound = sound_page W L w legal in
@@ -114,7 +114,7 @@ held_by need p h true e held = absurd (cc (e))
 held_by need p h false e held = held
 
 -- and just what a book hands out
-pub held_needed : (W : Who) (L : List Entry) (w : Who) (need : Need) → IsLegal Two W L → IsHeld need (needed_part need L w) (standing (own L w))
+pub held_needed : (W : Who) (L : List Entry) (w : Who) (need : Need) → IsLegal Today W L → IsHeld need (needed_part need L w) (standing (own L w))
 held_needed W L w need legal = by (own L w) refl
   where
     by : (M : List Entry) → own L w ≡ M → IsHeld need (needed_part need L w) (standing (own L w))

@@ -12,8 +12,8 @@ use Rattle.std.proofs.lemmas.Cmp.{nat_cmp_total}
 use Rattle.std.proofs.lemmas.List.Sorted.{IsPermutation-refl, IsPermutation-cons, IsPermutation-trans, IsPermutation-middle, IsPermutation-pop_more}
 use Rattle.sqlite_rules.specs.Lists.{Has}
 use Rattle.sqlite_rules.proofs.ListLemmas.{has_filtered, has_kept}
-use Rattle.profile.specs.Bytes.{comes_before}
-use Rattle.profile.specs.Header.{who_text}
+use Rattle.definitions.specs.Bytes.{comes_before}
+use Rattle.definitions.specs.Header.{who_text}
 use Rattle.rules.proofs.Texts.{texts_never, texts_through, texts_total}
 use Rattle.book_tables.specs.Enrolments.{EnrolmentFacts, from_text, IsFirstFrom, next_text}
 

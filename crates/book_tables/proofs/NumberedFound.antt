@@ -25,16 +25,16 @@ use Rattle.sqlite_tied.specs.Compute.{everything}
 use Rattle.sqlite_schema.specs.Rules.{equal}
 use Rattle.sqlite_rules.specs.Lists.{Has}
 use Rattle.sqlite_rules.proofs.ListLemmas.{all_has, has_kept}
-use Rattle.profile.specs.declared.rules.Rules.{Rules}
-use Rattle.profile.specs.declared.rules.Rules.TheVariants.{Two}
-use Rattle.profile.specs.Header.{Who, is_partner, who_eq, who_of, who_text}
-use Rattle.profile.specs.Moments.{Moment, stamp}
-use Rattle.profile.specs.Register.{Entry, own}
-use Rattle.profile.specs.Readings.{is_entry, moment_of}
-use Rattle.profile.proofs.ReadingLaws.{who_of-who_text, moment_of-stamp}
-use Rattle.profile.specs.Tables.{entry_row, entries_on, entry_rules_row, entry_rules_on}
-use Rattle.profile.proofs.RegisterLaws.{legal-entries}
-use Rattle.profile.proofs.TextLaws.{both_parts}
+use Rattle.definitions.specs.declared.rules.Rules.{Rules}
+use Rattle.definitions.specs.Rules.{Today}
+use Rattle.definitions.specs.Header.{Who, is_partner, who_eq, who_of, who_text}
+use Rattle.definitions.specs.Moments.{Moment, stamp}
+use Rattle.definitions.specs.Register.{Entry, own}
+use Rattle.definitions.specs.Readings.{is_entry, moment_of}
+use Rattle.definitions.proofs.ReadingLaws.{who_of-who_text, moment_of-stamp}
+use Rattle.definitions.specs.Tables.{entry_row, entries_on, entry_rules_row, entry_rules_on}
+use Rattle.definitions.proofs.RegisterLaws.{legal-entries}
+use Rattle.definitions.proofs.TextLaws.{both_parts}
 use Rattle.rules.specs.Written.{Written, written}
 use Rattle.rules.proofs.Depositors.{partner_of}
 use Rattle.rules.proofs.Registers.{same_who}
@@ -224,7 +224,7 @@ of_partner W L db stands w there =
     let legal = stands.legal in
     let its = subst (λ (ws : List Written). Has ws w) (own_written L w.who) (has_kept (λ (v : Written). who_eq v.who w.who) (all_written L) w there (same_who w.who)) in
     record {
-      partner = all_has (λ (v : Written). is_partner v.who ≡ true) (all_written L) w (partners_on [] L (legal-entries Two W L legal)) there;
+      partner = all_has (λ (v : Written). is_partner v.who ≡ true) (all_written L) w (partners_on [] L (legal-entries Today W L legal)) there;
       recorded = all_has (IsRecorded w.who) (all_written (own L w.who)) w (each_recorded W L w.who legal) its;
     }
 

@@ -6,8 +6,8 @@ use Rattle.std.specs.List.Sorted.{IsPermutation}
 use Rattle.std.proofs.lemmas.List.{map-append, take_more}
 use Rattle.std.proofs.lemmas.List.Sorted.{list_any-IsPermutation}
 use Rattle.std.proofs.lemmas.Slice.Eq.{bytes_eq-Decides}
-use Rattle.profile.specs.Bytes.{is_one_of}
-use Rattle.profile.specs.Need.{is_number_of}
+use Rattle.definitions.specs.Bytes.{is_one_of}
+use Rattle.definitions.specs.Need.{is_number_of}
 use Rattle.rules.specs.Parts.{Named}
 use Rattle.book_tables.specs.Needed.{with_numbers, with_texts}
 use Rattle.book_tables.specs.declared.needed.Sought.{Sought}

@@ -5,12 +5,12 @@ use Rattle.sqlite.specs.Tree.{Trees}
 use Rattle.sqlite.specs.Schema.{Schema}
 use Rattle.sqlite_trees.specs.Objects.{catalog_tree}
 use Rattle.sqlite_catalog.proofs.ReadLemmas.{lists_once}
-use Rattle.profile.specs.declared.rules.Rules.{Rules}
-use Rattle.profile.specs.declared.rules.Rules.TheVariants.{One, Two}
-use Rattle.profile.specs.Header.{Who}
-use Rattle.profile.specs.Register.{Entry}
-use Rattle.profile.specs.Tables.{TableRow, book_table, entry_table, entry_rules_table}
-use Rattle.profile.proofs.RegisterLaws.{entry_table-determines, entry_table-determines_first}
+use Rattle.definitions.specs.declared.rules.Rules.{Rules}
+use Rattle.definitions.specs.declared.rules.Rules.TheVariants.{One, Two}
+use Rattle.definitions.specs.Header.{Who}
+use Rattle.definitions.specs.Register.{Entry}
+use Rattle.definitions.specs.Tables.{TableRow, book_table, entry_table, entry_rules_table}
+use Rattle.definitions.proofs.RegisterLaws.{entry_table-determines, entry_table-determines_first}
 use Rattle.sqlite.specs.declared.types.Value.{Value}
 use Rattle.sqlite.specs.declared.types.Value.TheVariants as value
 use Rattle.book_statements.specs.declared.names.TableName.TheVariants as table

@@ -14,17 +14,17 @@ use Rattle.sqlite.specs.Term.{Term, col}
 use Rattle.sqlite_rules.specs.Lists.{Has}
 use Rattle.sqlite_rules.proofs.ListLemmas.{has_kept}
 use Rattle.sqlite_rules.proofs.ProbeLemmas.{mapped_has}
-use Rattle.profile.specs.declared.rules.Rules.TheVariants.{Two}
-use Rattle.profile.specs.Bytes.{comes_before, is_one_of}
-use Rattle.profile.specs.Header.{Who, is_partner, who_text}
-use Rattle.profile.specs.Need.{Need, part}
-use Rattle.profile.specs.Register.{Entry, own}
-use Rattle.profile.specs.History.{events}
-use Rattle.profile.specs.Accepted.{IsLegal}
-use Rattle.profile.specs.Page.{PageAdvice, PageOrder, page_advices, page_orders, page_of}
-use Rattle.profile.specs.Tables.{Text, TableRow, advice_cells, advice_rows, advice_table, flag, orders_cells, orders_rows, orders_table}
-use Rattle.profile.specs.Schema.{advice_schema, orders_schema}
-use Rattle.profile.proofs.TextLaws.{same_text}
+use Rattle.definitions.specs.Rules.{Today}
+use Rattle.definitions.specs.Bytes.{comes_before, is_one_of}
+use Rattle.definitions.specs.Header.{Who, is_partner, who_text}
+use Rattle.definitions.specs.Need.{Need, part}
+use Rattle.definitions.specs.Register.{Entry, own}
+use Rattle.definitions.specs.History.{events}
+use Rattle.definitions.specs.Accepted.{IsLegal}
+use Rattle.definitions.specs.Page.{PageAdvice, PageOrder, page_advices, page_orders, page_of}
+use Rattle.definitions.specs.Tables.{Text, TableRow, advice_cells, advice_rows, advice_table, flag, orders_cells, orders_rows, orders_table}
+use Rattle.definitions.specs.Schema.{advice_schema, orders_schema}
+use Rattle.definitions.proofs.TextLaws.{same_text}
 use Rattle.rules.specs.Keyed.{shipment_of, number_of}
 use Rattle.rules.specs.Naming.{facts_of}
 use Rattle.rules.specs.Pages.{PageFacts}
@@ -80,7 +80,7 @@ open_advices L who = (open_work (own L who)).advices
 abbrev advised : Who → PageAdvice → TableRow
 advised who a = Text (who_text who) ∷ advice_cells a
 
-shipments_under : (W : Who) (L : List Entry) (who : Who) → IsLegal Two W L → is_partner who ≡ true
+shipments_under : (W : Who) (L : List Entry) (who : Who) → IsLegal Today W L → is_partner who ≡ true
     → IsTested (not_closed 4) (advised who) 8 (name_columns 4) name_order (λ a. name_out a.shipment a.is_open) (value.Text (who_text who)) (advice_table L) (open_advices L who)
 shipments_under W L who legal partner =
     cells_tested W L who legal partner advice_rows refl advice_cells (page_advices (events (own L who))) refl (λ (a : PageAdvice). a.is_open) (not_closed 4) (λ id a. unclosed_told a.is_open)
@@ -116,7 +116,7 @@ open_orders L who = (open_work (own L who)).orders
 abbrev ordered_row : Who → PageOrder → TableRow
 ordered_row who o = Text (who_text who) ∷ orders_cells o
 
-numbers_under : (W : Who) (L : List Entry) (who : Who) → IsLegal Two W L → is_partner who ≡ true
+numbers_under : (W : Who) (L : List Entry) (who : Who) → IsLegal Today W L → is_partner who ≡ true
     → IsTested (not_closed 3) (ordered_row who) 12 (name_columns 3) name_order (λ o. name_out o.number o.is_open) (value.Text (who_text who)) (orders_table L) (open_orders L who)
 numbers_under W L who legal partner =
     cells_tested W L who legal partner orders_rows refl orders_cells (page_orders (events (own L who))) refl (λ (o : PageOrder). o.is_open) (not_closed 3) (λ id o. unclosed_told o.is_open)

@@ -11,17 +11,17 @@ use Rattle.sqlite.specs.Query.{Output, output}
 use Rattle.sqlite_rules.specs.Lists.{Has}
 use Rattle.sqlite_rules.proofs.ListLemmas.{has_found}
 use Rattle.sqlite_rules.proofs.ProbeLemmas.{has_mapped}
-use Rattle.profile.specs.declared.rules.Rules.TheVariants.{Two}
-use Rattle.profile.specs.Header.{Who, is_partner, who_text}
-use Rattle.profile.specs.Means.{Line, Address}
-use Rattle.profile.specs.Register.{Entry, own}
-use Rattle.profile.specs.History.{events}
-use Rattle.profile.specs.Accepted.{IsLegal}
-use Rattle.profile.specs.Page.{PageLine, PageOrder, orders_of, page_order, page_orders, page_of}
-use Rattle.profile.specs.Tables.{Text, TableRow, orders_cells, orders_rows, orders_table, order_line_rows, order_line_table, reservation_rows, reservation_table}
-use Rattle.profile.specs.Schema.{order_line_schema, reservation_schema}
-use Rattle.profile.specs.Bytes.{comes_before}
-use Rattle.profile.proofs.TextLaws.{text_is as bytes_same}
+use Rattle.definitions.specs.Rules.{Today}
+use Rattle.definitions.specs.Header.{Who, is_partner, who_text}
+use Rattle.definitions.specs.Means.{Line, Address}
+use Rattle.definitions.specs.Register.{Entry, own}
+use Rattle.definitions.specs.History.{events}
+use Rattle.definitions.specs.Accepted.{IsLegal}
+use Rattle.definitions.specs.Page.{PageLine, PageOrder, orders_of, page_order, page_orders, page_of}
+use Rattle.definitions.specs.Tables.{Text, TableRow, orders_cells, orders_rows, orders_table, order_line_rows, order_line_table, reservation_rows, reservation_table}
+use Rattle.definitions.specs.Schema.{order_line_schema, reservation_schema}
+use Rattle.definitions.specs.Bytes.{comes_before}
+use Rattle.definitions.proofs.TextLaws.{text_is as bytes_same}
 use Rattle.rules.specs.Keyed.{number_of, key_before as pairs_in_order, rises_by}
 use Rattle.rules.specs.Pages.{order_at, is_number}
 use Rattle.rules.proofs.KeyLemmas.{texts_strict}
@@ -67,7 +67,7 @@ order_puts who number id o = by o.address
     by None = refl
     by (Some a) = refl
 
-order_under : (W : Who) (L : List Entry) (who : Who) (number : List ℕ) → IsLegal Two W L → is_partner who ≡ true
+order_under : (W : Who) (L : List Entry) (who : Who) (number : List ℕ) → IsLegal Today W L → is_partner who ≡ true
     → IsUnder 2 (ordered_row who) 12 order_columns [] order_out (value.Text (who_text who)) (value.Text number) (orders_table L) (filter (is_number number) (orders L who))
 order_under W L who number legal partner =
     cells_under W L who legal partner orders_rows refl orders_cells (orders L who) refl (is_number number) (value.Text number) 2 (λ id a. equal_bytes a.number number)
@@ -110,7 +110,7 @@ line_cells who number p = Text (who_text who) ∷ Text number ∷ ordered_cells 
 abbrev its_lines : List Entry → Who → List ℕ → List PageLine
 its_lines L who number = lines_ordered (order_at number (page_of (own L who)).orders)
 
-lines_under : (W : Who) (L : List Entry) (who : Who) (number : List ℕ) → IsLegal Two W L → is_partner who ≡ true
+lines_under : (W : Who) (L : List Entry) (who : Who) (number : List ℕ) → IsLegal Today W L → is_partner who ≡ true
     → IsUnder 2 (line_cells who number) 14 line_columns line_order line_out (value.Text (who_text who)) (value.Text number) (order_line_table L) (enumerate_from 1 (its_lines L who number))
 lines_under W L who number legal partner =
     parts_under W L who legal partner order_line_rows refl number_of (λ (a : PageOrder). enumerate_from 1 a.lines) ordered_cells (orders L who) refl (orders_rise (events (own L who))) number
@@ -132,11 +132,11 @@ ordered_found W L who number db rows partner sound stands h =
     ∙ second_of order_line_shown 1 (its_lines L who number)
 
 pub ordered_read : (old : State) (W : Who) (L : List Entry) (who : Who) (number : List ℕ) → IsTrue (is_partner who) → IsLive old → StandsWhileOpen old W L → (rows : List Row)
-    → IsTrue old.is_open × Finds order_lines_text (value.Text (who_text who) ∷ value.Text number ∷ []) old.now rows → (read : Option (List PageLine)) → ((ls : List PageLine) → list_all (is_fitting_ordered Two) ls ≡ true → rows ≡ map order_line_shown ls → read ≡ Some ls)
+    → IsTrue old.is_open × Finds order_lines_text (value.Text (who_text who) ∷ value.Text number ∷ []) old.now rows → (read : Option (List PageLine)) → ((ls : List PageLine) → list_all (is_fitting_ordered Today) ls ≡ true → rows ≡ map order_line_shown ls → read ≡ Some ls)
     → read ≡ Some (lines_ordered (order_at number (page_of (own L who)).orders))
 ordered_read old W L who number partner live stands rows finds read right =
     let here = stands finds.0 in
-    right _ (ordered_fit number (page_of (own L who)).orders (page_fits Two W L who here.legal).orders) (ordered_found W L who number old.now rows partner (live finds.0).0 here finds.1)
+    right _ (ordered_fit number (page_of (own L who)).orders (page_fits Today W L who here.legal).orders) (ordered_found W L who number old.now rows partner (live finds.0).0 here finds.1)
 
 -- What is reserved for it.
 
@@ -149,7 +149,7 @@ share_cells who number l = Text (who_text who) ∷ Text number ∷ reserved_cell
 abbrev its_shares : List Entry → Who → List ℕ → List Line
 its_shares L who number = lines_reserved (order_at number (page_of (own L who)).orders)
 
-shares_under : (W : Who) (L : List Entry) (who : Who) (number : List ℕ) → IsLegal Two W L → is_partner who ≡ true
+shares_under : (W : Who) (L : List Entry) (who : Who) (number : List ℕ) → IsLegal Today W L → is_partner who ≡ true
     → IsUnder 2 (share_cells who number) 16 reserved_columns reserved_order reserved_out (value.Text (who_text who)) (value.Text number) (reservation_table L) (its_shares L who number)
 shares_under W L who number legal partner =
     parts_under W L who legal partner reservation_rows refl number_of (λ (o : PageOrder). o.reserved) reserved_cells (orders L who) refl (orders_rise (events (own L who))) number
@@ -177,8 +177,8 @@ reserved_found W L who number db rows partner sound stands h =
     (are_keyed reservation_schema 4 (reservation_table L) (db.trees 16) (ordered.each Reservation) (held Reservation)))
 
 pub reserved_read : (old : State) (W : Who) (L : List Entry) (who : Who) (number : List ℕ) → IsTrue (is_partner who) → IsLive old → StandsWhileOpen old W L → (rows : List Row)
-    → IsTrue old.is_open × Finds reserved_text (value.Text (who_text who) ∷ value.Text number ∷ []) old.now rows → (read : Option (List Line)) → ((ls : List Line) → list_all (is_fitting_line Two) ls ≡ true → rows ≡ map line_shown ls → read ≡ Some ls)
+    → IsTrue old.is_open × Finds reserved_text (value.Text (who_text who) ∷ value.Text number ∷ []) old.now rows → (read : Option (List Line)) → ((ls : List Line) → list_all (is_fitting_line Today) ls ≡ true → rows ≡ map line_shown ls → read ≡ Some ls)
     → read ≡ Some (lines_reserved (order_at number (page_of (own L who)).orders))
 reserved_read old W L who number partner live stands rows finds read right =
     let here = stands finds.0 in
-    right _ (reserved_fit number (page_of (own L who)).orders (page_fits Two W L who here.legal).orders) (reserved_found W L who number old.now rows partner (live finds.0).0 here finds.1)
+    right _ (reserved_fit number (page_of (own L who)).orders (page_fits Today W L who here.legal).orders) (reserved_found W L who number old.now rows partner (live finds.0).0 here finds.1)

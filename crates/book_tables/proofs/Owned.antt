@@ -4,17 +4,17 @@ use Rattle.std.proofs.Common.{◌≡◌, ℕ, Bool, true, false, not, ◌&&◌, 
 use Rattle.std.specs.Prelude.{if◌then◌else◌}
 use Rattle.std.specs.List.{list_all}
 use Rattle.std.proofs.lemmas.Bool.{cases_Bool}
-use Rattle.profile.specs.declared.rules.Rules.{Rules}
-use Rattle.profile.specs.declared.rules.Rules.TheVariants.{One, Two}
-use Rattle.profile.specs.Moments.{Moment, is_moment, stamp}
-use Rattle.profile.specs.Header.{Who, is_partner, who_eq, who_of, who_text, sender, is_unreadable}
-use Rattle.profile.specs.Register.{Command, Interchange, Enrol, Clerk, Entry, own, is_numbered, next_number}
-use Rattle.profile.specs.Readings.{is_entry}
-use Rattle.profile.specs.Accepted.{own_of, reply_to, is_accepted, entry_of, after, accepted_on, is_command, can_be_given, IsLegal}
-use Rattle.profile.specs.Reply.{reply}
-use Rattle.profile.specs.Tables.{Number, Text, Blob, TableRow, entry_row, entries_on}
-use Rattle.profile.proofs.TextLaws.{both_parts, same_text, text_is}
-use Rattle.profile.proofs.ReadingLaws.{who_of-who_text}
+use Rattle.definitions.specs.declared.rules.Rules.{Rules}
+use Rattle.definitions.specs.declared.rules.Rules.TheVariants.{One, Two}
+use Rattle.definitions.specs.Moments.{Moment, is_moment, stamp}
+use Rattle.definitions.specs.Header.{Who, is_partner, who_eq, who_of, who_text, sender, is_unreadable}
+use Rattle.definitions.specs.Register.{Command, Interchange, Enrol, Clerk, Entry, own, is_numbered, next_number}
+use Rattle.definitions.specs.Readings.{is_entry}
+use Rattle.definitions.specs.Accepted.{own_of, reply_to, is_accepted, entry_of, after, accepted_on, is_command, can_be_given, IsLegal}
+use Rattle.definitions.specs.Reply.{reply}
+use Rattle.definitions.specs.Tables.{Number, Text, Blob, TableRow, entry_row, entries_on}
+use Rattle.definitions.proofs.TextLaws.{both_parts, same_text, text_is}
+use Rattle.definitions.proofs.ReadingLaws.{who_of-who_text}
 use Rattle.rules.specs.Written.{Written, written, written_as}
 use Rattle.rules.proofs.Registers.{who_is, same_who, own_more, own_without}
 use Rattle.rules.proofs.Depositors.{partner_of}

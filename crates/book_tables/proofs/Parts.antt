@@ -8,15 +8,15 @@ use Rattle.std.proofs.lemmas.List.Elements.{filter-append}
 use Rattle.std.proofs.lemmas.Grind.{flat_map-append}
 use Rattle.sqlite_rules.specs.Lists.{Has}
 use Rattle.sqlite_rules.proofs.ListLemmas.{test_has}
-use Rattle.profile.specs.declared.rules.Rules.TheVariants.{Two}
-use Rattle.profile.specs.Bytes.{comes_before}
-use Rattle.profile.specs.Header.{Who, is_partner, who_text}
-use Rattle.profile.specs.Register.{Enrolled, Received, Entry, own, is_numbered}
-use Rattle.profile.specs.History.{events}
-use Rattle.profile.specs.Accepted.{IsLegal}
-use Rattle.profile.specs.Rows.{running_rows, outgoing_rows}
-use Rattle.profile.specs.Tables.{Text, TableRow, for_each, outgoing_cells, outgoing_table, stock_cells, stock_table, expiry_cells, lot_expiry_table}
-use Rattle.profile.proofs.TextLaws.{same_text}
+use Rattle.definitions.specs.Rules.{Today}
+use Rattle.definitions.specs.Bytes.{comes_before}
+use Rattle.definitions.specs.Header.{Who, is_partner, who_text}
+use Rattle.definitions.specs.Register.{Enrolled, Received, Entry, own, is_numbered}
+use Rattle.definitions.specs.History.{events}
+use Rattle.definitions.specs.Accepted.{IsLegal}
+use Rattle.definitions.specs.Rows.{running_rows, outgoing_rows}
+use Rattle.definitions.specs.Tables.{Text, TableRow, for_each, outgoing_cells, outgoing_table, stock_cells, stock_table, expiry_cells, lot_expiry_table}
+use Rattle.definitions.proofs.TextLaws.{same_text}
 use Rattle.rules.specs.Keyed.{rises_by}
 use Rattle.rules.proofs.Orders.{IsStrict}
 use Rattle.rules.proofs.Blocks.{prefixed, blocks}
@@ -53,7 +53,7 @@ above_gone t rows (w ∷ ws) h =
 
 -- an entry that the depositor could have next
 next_of : Who → Bool → Entry
-next_of who none = record { who = who; moment = record { year = 2000; month = 1; day = 1; hour = 0; minute = 0 }; deed = if none then Enrolled else Received []; rules = Two }
+next_of who none = record { who = who; moment = record { year = 2000; month = 1; day = 1; hour = 0; minute = 0 }; deed = if none then Enrolled else Received []; rules = Today }
 
 numbered_next : (who : Who) (none : Bool) → is_numbered (next_of who none) ≡ not none
 unfolding next_of
@@ -69,7 +69,7 @@ nil_right [] = refl
 nil_right {X} (x ∷ xs) = ap (λ (ys : List X). x ∷ ys) (nil_right xs)
 
 -- the rows of a partner in a table that has none for no entries
-pub part_of : (W : Who) (L : List Entry) (who : Who) (rows : List Entry → List TableRow) → IsLegal Two W L → is_partner who ≡ true → rows [] ≡ []
+pub part_of : (W : Who) (L : List Entry) (who : Who) (rows : List Entry → List TableRow) → IsLegal Today W L → is_partner who ≡ true → rows [] ≡ []
     → filter (begins (who_text who)) (for_each L rows) ≡ prefixed (who_text who) (rows (own L who))
 unfolding next_of
 part_of W L who rows legal partner nothing = by (length (own L who) == 0) refl
@@ -94,7 +94,7 @@ part_of W L who rows legal partner nothing = by (length (own L who) == 0) refl
     by : (none : Bool) → (length (own L who) == 0) ≡ none → filter (begins t) (for_each L rows) ≡ prefixed t (rows (own L who))
     by none is =
         let e = next_of who none in
-        let at : IsAmong L e = among Two W L e legal partner (numbered_next who none ∙ ap not (sym is)) in
+        let at : IsAmong L e = among Today W L e legal partner (numbered_next who none ∙ ap not (sym is)) in
         ap (λ (ws : List Who). filter (begins t) (blocks who_text its ws)) at.here ∙ middle at.front at.old at.back at.below at.above
         ∙ ap (λ (ws : List Who). filter (begins t) (blocks who_text its ws)) at.old_is ∙ last none is
       where
@@ -103,17 +103,17 @@ part_of W L who rows legal partner nothing = by (length (own L who) == 0) refl
         last false h = ap (filter (begins t)) (nil_right (prefixed t (its who))) ∙ own_kept t (its who)
 
 -- a partner's rows of stock are the running rows of its own entries
-pub stock_part : (W : Who) (L : List Entry) (who : Who) → IsLegal Two W L → is_partner who ≡ true
+pub stock_part : (W : Who) (L : List Entry) (who : Who) → IsLegal Today W L → is_partner who ≡ true
     → filter (begins (who_text who)) (stock_table L) ≡ prefixed (who_text who) (map stock_cells (running_rows (events (own L who))))
 stock_part W L who legal partner = part_of W L who (λ M. map stock_cells (running_rows (events M))) legal partner refl
 
 -- and so its dates
-pub dates_part : (W : Who) (L : List Entry) (who : Who) → IsLegal Two W L → is_partner who ≡ true
+pub dates_part : (W : Who) (L : List Entry) (who : Who) → IsLegal Today W L → is_partner who ≡ true
     → filter (begins (who_text who)) (lot_expiry_table L) ≡ prefixed (who_text who) (flat_map expiry_cells (running_rows (events (own L who))))
 dates_part W L who legal partner = part_of W L who (λ M. flat_map expiry_cells (running_rows (events M))) legal partner refl
 
 -- and what went out
-pub outgoing_part : (W : Who) (L : List Entry) (who : Who) → IsLegal Two W L → is_partner who ≡ true
+pub outgoing_part : (W : Who) (L : List Entry) (who : Who) → IsLegal Today W L → is_partner who ≡ true
     → filter (begins (who_text who)) (outgoing_table W L) ≡ prefixed (who_text who) (map outgoing_cells (outgoing_rows W (own L who)))
 outgoing_part W L who legal partner = part_of W L who (λ M. map outgoing_cells (outgoing_rows W M)) legal partner refl
 

@@ -7,8 +7,8 @@ use Rattle.sqlite.specs.State.{State, HasCleanDisk}
 use Rattle.sqlite.proofs.StateLemmas.{survives_weaker}
 use Rattle.store.specs.Fault.{Fault}
 use Rattle.store.specs.Fault.TheVariants.{OutOfMemory, Store, Reopen, NotThisBook, Device}
-use Rattle.profile.specs.Header.{Who}
-use Rattle.profile.specs.Register.{Entry}
+use Rattle.definitions.specs.Header.{Who}
+use Rattle.definitions.specs.Register.{Entry}
 use Rattle.book_statements.specs.Asking.{Asked, Went, IsAsked, IsAskFault}
 use Rattle.book_statements.specs.Exits.{StandsWhileOpen}
 use Rattle.book_statements.specs.Faults.{IsCallFault}

@@ -5,10 +5,10 @@ use Rattle.std.proofs.Math.Nat.{mul-le-mul_left, pow-succ', pow-le-pow_right}
 use Rattle.sqlite.specs.Order.{Row}
 use Rattle.sqlite.specs.declared.types.Value.{Value}
 use Rattle.sqlite.specs.declared.types.Value.TheVariants.{Int, Text}
-use Rattle.profile.specs.Bytes.{value}
-use Rattle.profile.specs.Moments.{Moment, is_moment, stamp}
-use Rattle.profile.specs.Readings.{moment_in, moment_of}
-use Rattle.profile.proofs.TextLaws.{both_parts, text_is}
+use Rattle.definitions.specs.Bytes.{value}
+use Rattle.definitions.specs.Moments.{Moment, is_moment, stamp}
+use Rattle.definitions.specs.Readings.{moment_in, moment_of}
+use Rattle.definitions.proofs.TextLaws.{both_parts, text_is}
 
 -- Digits: four bytes are a value below a million, whether they are digits or not.
 

@@ -5,17 +5,17 @@ use Rattle.std.specs.Prelude.{if◌then◌else◌}
 use Rattle.sqlite.specs.Order.{Row, column}
 use Rattle.sqlite.specs.declared.types.Value.TheVariants as value
 use Rattle.sqlite_rules.specs.Lists.{Has}
-use Rattle.profile.specs.declared.rules.Rules.{Rules}
-use Rattle.profile.specs.declared.rules.Rules.TheVariants.{Two}
-use Rattle.profile.specs.Moments.{Moment}
-use Rattle.profile.specs.Header.{Who}
-use Rattle.profile.specs.Limits.{most_entries}
-use Rattle.profile.specs.Register.{Act, Count, Pick, Recount, Deed, Enrolled, Received, Performed, Entry, own, is_numbered, next_number}
-use Rattle.profile.specs.Events.{Event}
-use Rattle.profile.specs.History.{history, events}
-use Rattle.profile.specs.Accepted.{IsLegal}
-use Rattle.profile.specs.Rows.{OutRow, act_kind, act_function, said_of, state_text, out_row, outgoing_on, outgoing_rows}
-use Rattle.profile.proofs.HistoryLaws.{history-numbered}
+use Rattle.definitions.specs.declared.rules.Rules.{Rules}
+use Rattle.definitions.specs.Rules.{Today}
+use Rattle.definitions.specs.Moments.{Moment}
+use Rattle.definitions.specs.Header.{Who}
+use Rattle.definitions.specs.Limits.{most_entries}
+use Rattle.definitions.specs.Register.{Act, Count, Pick, Recount, Deed, Enrolled, Received, Performed, Entry, own, is_numbered, next_number}
+use Rattle.definitions.specs.Events.{Event}
+use Rattle.definitions.specs.History.{history, events}
+use Rattle.definitions.specs.Accepted.{IsLegal}
+use Rattle.definitions.specs.Rows.{OutRow, act_kind, act_function, said_of, state_text, out_row, outgoing_on, outgoing_rows}
+use Rattle.definitions.proofs.HistoryLaws.{history-numbered}
 use Rattle.rules.specs.Played.{CanFollow}
 use Rattle.rules.proofs.Registers.{Along1, follows_own}
 use Rattle.rules.specs.OutKind.{OutKind}
@@ -68,5 +68,5 @@ rows_sent W es before (e ∷ M) follows r h = by (is_numbered e) refl h (rows_se
       | inr more ↦ later more
     ]
 
-pub legal_sent : (W : Who) (L : List Entry) (who : Who) → IsLegal Two W L → (r : OutRow) → Has (outgoing_rows W (own L who)) r → IsSent r
-legal_sent W L who legal = rows_sent W (events (own L who)) [] (own L who) (follows_own Two W L who legal)
+pub legal_sent : (W : Who) (L : List Entry) (who : Who) → IsLegal Today W L → (r : OutRow) → Has (outgoing_rows W (own L who)) r → IsSent r
+legal_sent W L who legal = rows_sent W (events (own L who)) [] (own L who) (follows_own Today W L who legal)

@@ -10,12 +10,12 @@ use Rattle.sqlite.specs.Query.{Output, IsAnswer}
 use Rattle.sqlite.specs.Program.{overlay}
 use Rattle.sqlite_rules.specs.Lists.{Has}
 use Rattle.sqlite_rules.proofs.ListLemmas.{has_filtered, has_found, has_kept}
-use Rattle.profile.specs.Header.{Who, is_partner, who_text}
-use Rattle.profile.specs.Register.{Entry, own}
-use Rattle.profile.specs.History.{events}
-use Rattle.profile.specs.Page.{page_of}
-use Rattle.profile.specs.Rows.{OutRow, outgoing_rows, outbox_rows}
-use Rattle.profile.specs.Tables.{Text, TableRow, outgoing_cells, outgoing_table}
+use Rattle.definitions.specs.Header.{Who, is_partner, who_text}
+use Rattle.definitions.specs.Register.{Entry, own}
+use Rattle.definitions.specs.History.{events}
+use Rattle.definitions.specs.Page.{page_of}
+use Rattle.definitions.specs.Rows.{OutRow, outgoing_rows, outbox_rows}
+use Rattle.definitions.specs.Tables.{Text, TableRow, outgoing_cells, outgoing_table}
 use Rattle.rules.specs.Pages.{document_at}
 use Rattle.rules.proofs.KeyLemmas.{numbers_strict}
 use Rattle.book_statements.specs.Asking.{Finds}

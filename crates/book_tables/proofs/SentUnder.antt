@@ -14,18 +14,18 @@ use Rattle.sqlite_schema.specs.Rules.{equal}
 use Rattle.sqlite_rules.specs.Lists.{Has}
 use Rattle.sqlite_rules.proofs.ListLemmas.{test_has, has_filtered, has_kept}
 use Rattle.sqlite_rules.proofs.ProbeLemmas.{has_mapped, mapped_has}
-use Rattle.profile.specs.declared.rules.Rules.{Rules}
-use Rattle.profile.specs.declared.rules.Rules.TheVariants.{Two}
-use Rattle.profile.specs.Header.{Who, is_partner, who_text}
-use Rattle.profile.specs.Moments.{Moment}
-use Rattle.profile.specs.Register.{Entry, Deed, Enrolled, Received, Performed, own, is_numbered, next_number}
-use Rattle.profile.specs.Events.{Event}
-use Rattle.profile.specs.History.{events}
-use Rattle.profile.specs.Accepted.{IsLegal}
-use Rattle.profile.specs.Reply.{out}
-use Rattle.profile.specs.Rows.{OutRow, out_row, outgoing_on, outgoing_rows}
-use Rattle.profile.specs.Tables.{Text, TableRow, outgoing_cells, outgoing_table}
-use Rattle.profile.proofs.TextLaws.{same_text}
+use Rattle.definitions.specs.declared.rules.Rules.{Rules}
+use Rattle.definitions.specs.Rules.{Today}
+use Rattle.definitions.specs.Header.{Who, is_partner, who_text}
+use Rattle.definitions.specs.Moments.{Moment}
+use Rattle.definitions.specs.Register.{Entry, Deed, Enrolled, Received, Performed, own, is_numbered, next_number}
+use Rattle.definitions.specs.Events.{Event}
+use Rattle.definitions.specs.History.{events}
+use Rattle.definitions.specs.Accepted.{IsLegal}
+use Rattle.definitions.specs.Reply.{out}
+use Rattle.definitions.specs.Rows.{OutRow, out_row, outgoing_on, outgoing_rows}
+use Rattle.definitions.specs.Tables.{Text, TableRow, outgoing_cells, outgoing_table}
+use Rattle.definitions.proofs.TextLaws.{same_text}
 use Rattle.rules.specs.Keyed.{rises_by}
 use Rattle.rules.proofs.KeyLemmas.{numbers_strict}
 use Rattle.book_statements.specs.Asking.{Finds}
@@ -106,7 +106,7 @@ never_zero W M r there is =
 pos_is : (m n : ℕ) → pos m ≡ pos n → m ≡ n
 pos_is m n e = cc e
 
-module _ (W : Who) (L : List Entry) (who : Who) (legal : IsLegal Two W L) (partner : is_partner who ≡ true) (n : ℕ) (db : Trees) (held : Holds (outgoing_table W L) (db 4)) where
+module _ (W : Who) (L : List Entry) (who : Who) (legal : IsLegal Today W L) (partner : is_partner who ≡ true) (n : ℕ) (db : Trees) (held : Holds (outgoing_table W L) (db 4)) where
   abbrev t : List ℕ
   t = who_text who
 

@@ -17,8 +17,8 @@ use Rattle.sqlite_schema.specs.Rules.{equal}
 use Rattle.sqlite_rules.specs.Lists.{Has}
 use Rattle.sqlite_rules.proofs.ListLemmas.{has_filtered, has_kept}
 use Rattle.sqlite_rules.proofs.ProbeLemmas.{has_mapped, mapped_has}
-use Rattle.profile.specs.Tables.{Text, TableRow}
-use Rattle.profile.proofs.TextLaws.{same_text}
+use Rattle.definitions.specs.Tables.{Text, TableRow}
+use Rattle.definitions.proofs.TextLaws.{same_text}
 use Rattle.rules.specs.Keyed.{rises_by}
 use Rattle.rules.proofs.Blocks.{prefixed}
 use Rattle.book_statements.specs.Held.{values, Holds}

@@ -15,15 +15,15 @@ use Rattle.sqlite.specs.Tree.{Trees}
 use Rattle.sqlite_value.proofs.OrderLemmas.{value_cmp-Text, value_cmp-Int}
 use Rattle.sqlite_catalog.specs.Listing.{IsSound}
 use Rattle.sqlite_rules.specs.Lists.{Has}
-use Rattle.profile.specs.declared.rules.Rules.TheVariants.{Two}
-use Rattle.profile.specs.Bytes.{comes_before}
-use Rattle.profile.specs.Header.{Who, is_partner, who_text}
-use Rattle.profile.specs.Register.{Entry, own}
-use Rattle.profile.specs.History.{events}
-use Rattle.profile.specs.Accepted.{IsLegal}
-use Rattle.profile.specs.Rows.{LotRow, OutRow, running_rows, outgoing_rows}
-use Rattle.profile.specs.Tables.{Text, TableRow, depositors, for_each, stock_cells, stock_table, expiry_cells, lot_expiry_table, outgoing_cells, outgoing_table}
-use Rattle.profile.specs.Schema.{stock_schema, lot_expiry_schema, outgoing_schema}
+use Rattle.definitions.specs.Rules.{Today}
+use Rattle.definitions.specs.Bytes.{comes_before}
+use Rattle.definitions.specs.Header.{Who, is_partner, who_text}
+use Rattle.definitions.specs.Register.{Entry, own}
+use Rattle.definitions.specs.History.{events}
+use Rattle.definitions.specs.Accepted.{IsLegal}
+use Rattle.definitions.specs.Rows.{LotRow, OutRow, running_rows, outgoing_rows}
+use Rattle.definitions.specs.Tables.{Text, TableRow, depositors, for_each, stock_cells, stock_table, expiry_cells, lot_expiry_table, outgoing_cells, outgoing_table}
+use Rattle.definitions.specs.Schema.{stock_schema, lot_expiry_schema, outgoing_schema}
 use Rattle.rules.specs.Keyed.{row_key, key_before as pairs_in_order}
 use Rattle.rules.proofs.KeyLemmas.{numbers_strict}
 use Rattle.rules.proofs.Blocks.{prefixed}
@@ -98,7 +98,7 @@ same_pair first i j l m h =
 abbrev pub lot_out : LotRow → Output
 lot_out r = (value.Text r.item ∷ value.Text r.lot ∷ [], lot_shown r)
 
-lots_are : (W : Who) (L : List Entry) (who : Who) → IsLegal Two W L → is_partner who ≡ true
+lots_are : (W : Who) (L : List Entry) (who : Who) → IsLegal Today W L → is_partner who ≡ true
     → IsShown pairs_in_order row_key stock_cells 6 3 lots_columns pair_order lot_out (who_text who) (stock_table L) (running_rows (events (own L who)))
 lots_are W L who legal partner = record {
   lies = λ db. refl;
@@ -111,7 +111,7 @@ lots_are W L who legal partner = record {
 }
 
 -- the answer of a partner's lots is its running rows, but for their dates
-pub all_lots_shown : (schema : Schema) (lies : IsLayout schema) (W : Who) (L : List Entry) (who : Who) (db : Trees) (rows : List Row) → IsLegal Two W L → is_partner who ≡ true → IsSound schema db → Holds (stock_table L) (db 6)
+pub all_lots_shown : (schema : Schema) (lies : IsLayout schema) (W : Who) (L : List Entry) (who : Who) (db : Trees) (rows : List Row) → IsLegal Today W L → is_partner who ≡ true → IsSound schema db → Holds (stock_table L) (db 6)
     → IsAnswer all_lots_query (overlay db []) (value.Text (who_text who) ∷ []) rows → rows ≡ map lot_shown (running_rows (events (own L who)))
 all_lots_shown schema lies W L who db rows legal partner sound held a =
     let ordered : AreOrdered (filled W L) = all_ordered W L in
@@ -123,7 +123,7 @@ all_lots_shown schema lies W L who db rows legal partner sound held a =
 abbrev pub date_out : Dated → Output
 date_out d = (value.Text d.item ∷ value.Text d.lot ∷ [], date_shown d)
 
-dates_are : (W : Who) (L : List Entry) (who : Who) → IsLegal Two W L → is_partner who ≡ true
+dates_are : (W : Who) (L : List Entry) (who : Who) → IsLegal Today W L → is_partner who ≡ true
     → IsShown pairs_in_order date_key date_cells 19 3 dates_columns pair_order date_out (who_text who) (lot_expiry_table L) (dates_of (running_rows (events (own L who))))
 dates_are W L who legal partner = record {
   lies = λ db. refl;
@@ -136,7 +136,7 @@ dates_are W L who legal partner = record {
 }
 
 -- the answer of a partner's dates is those of its running rows
-pub dates_shown : (schema : Schema) (lies : IsLayout schema) (W : Who) (L : List Entry) (who : Who) (db : Trees) (rows : List Row) → IsLegal Two W L → is_partner who ≡ true → IsSound schema db → Holds (lot_expiry_table L) (placed schema db 19)
+pub dates_shown : (schema : Schema) (lies : IsLayout schema) (W : Who) (L : List Entry) (who : Who) (db : Trees) (rows : List Row) → IsLegal Today W L → is_partner who ≡ true → IsSound schema db → Holds (lot_expiry_table L) (placed schema db 19)
     → IsAnswer all_dates_query (overlay (placed schema db) []) (value.Text (who_text who) ∷ []) rows → rows ≡ map date_shown (dates_of (running_rows (events (own L who))))
 dates_shown schema lies W L who db rows legal partner sound held a =
     let ordered : AreOrdered (filled W L) = all_ordered W L in
@@ -165,7 +165,7 @@ number_is m n h = by (nat_lt m n) (nat_lt n m) refl refl (sym (λ p. is_eq (orde
     by false true e f g = absurd (let k : ◌≡◌ {A = Bool} false true = g in cc)
     by false false e f g = numbers_strict.total m n e f
 
-outgoing_is : (W : Who) (L : List Entry) (who : Who) → IsLegal Two W L → is_partner who ≡ true
+outgoing_is : (W : Who) (L : List Entry) (who : Who) → IsLegal Today W L → is_partner who ≡ true
     → IsShown nat_lt (λ (r : OutRow). r.n) outgoing_cells 4 2 outbox_columns outbox_order out_out (who_text who) (outgoing_table W L) (outgoing_rows W (own L who))
 outgoing_is W L who legal partner = record {
   lies = λ db. refl;
@@ -178,7 +178,7 @@ outgoing_is W L who legal partner = record {
 }
 
 -- the answer of what went out to a partner is all of its outgoing rows
-pub outgoing_rows_shown : (schema : Schema) (lies : IsLayout schema) (W : Who) (L : List Entry) (who : Who) (db : Trees) (rows : List Row) → IsLegal Two W L → is_partner who ≡ true → IsSound schema db → Holds (outgoing_table W L) (db 4)
+pub outgoing_rows_shown : (schema : Schema) (lies : IsLayout schema) (W : Who) (L : List Entry) (who : Who) (db : Trees) (rows : List Row) → IsLegal Today W L → is_partner who ≡ true → IsSound schema db → Holds (outgoing_table W L) (db 4)
     → IsAnswer outbox_query (overlay db []) (value.Text (who_text who) ∷ []) rows → rows ≡ map out_shown (outgoing_rows W (own L who))
 outgoing_rows_shown schema lies W L who db rows legal partner sound held a =
     let ordered : AreOrdered (filled W L) = all_ordered W L in

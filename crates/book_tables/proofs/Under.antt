@@ -17,12 +17,12 @@ use Rattle.sqlite_schema.specs.Rules.{equal}
 use Rattle.sqlite_rules.specs.Lists.{Has}
 use Rattle.sqlite_rules.proofs.ListLemmas.{has_filtered, has_kept}
 use Rattle.sqlite_rules.proofs.ProbeLemmas.{has_mapped, mapped_has}
-use Rattle.profile.specs.declared.rules.Rules.TheVariants.{Two}
-use Rattle.profile.specs.Header.{Who, is_partner, who_text}
-use Rattle.profile.specs.Register.{Entry, own}
-use Rattle.profile.specs.Accepted.{IsLegal}
-use Rattle.profile.specs.Tables.{Text, TableRow, for_each}
-use Rattle.profile.proofs.TextLaws.{same_text}
+use Rattle.definitions.specs.Rules.{Today}
+use Rattle.definitions.specs.Header.{Who, is_partner, who_text}
+use Rattle.definitions.specs.Register.{Entry, own}
+use Rattle.definitions.specs.Accepted.{IsLegal}
+use Rattle.definitions.specs.Tables.{Text, TableRow, for_each}
+use Rattle.definitions.proofs.TextLaws.{same_text}
 use Rattle.rules.specs.Keyed.{rises_by}
 use Rattle.book_statements.specs.Held.{values, Holds}
 use Rattle.book_statements.specs.Steps.{key_of}
@@ -35,7 +35,7 @@ use Rattle.book_tables.proofs.ShownRows.{begun}
 use Rattle.book_tables.proofs.Sorts.{ordered_is, shown_apart}
 
 -- The rows of a partner in a table of depositors that has none for no entries.
-module _ (W : Who) (L : List Entry) (who : Who) (rows : List Entry → List TableRow) (legal : IsLegal Two W L) (partner : is_partner who ≡ true) (nothing : rows [] ≡ []) where
+module _ (W : Who) (L : List Entry) (who : Who) (rows : List Entry → List TableRow) (legal : IsLegal Today W L) (partner : is_partner who ≡ true) (nothing : rows [] ≡ []) where
   pub own_row : (id : ℤ) (c : TableRow) → Has (for_each L rows) c → equal Binary (column (value.Int id ∷ values c) 1) (value.Text (who_text who)) ≡ true
       → (r : TableRow) × Has (rows (own L who)) r × (c ≡ Text (who_text who) ∷ r)
   own_row id c there its =

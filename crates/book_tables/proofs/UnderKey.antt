@@ -17,13 +17,13 @@ use Rattle.sqlite_value.proofs.OrderLemmas.{value_cmp-Text}
 use Rattle.sqlite_schema.specs.Rules.{equal}
 use Rattle.sqlite_trees.specs.Tree.{IsAscending}
 use Rattle.sqlite_trees.proofs.ListLemmas.{ascending-filter, ascending-map, ascending_weaker}
-use Rattle.profile.specs.declared.rules.Rules.TheVariants.{Two}
-use Rattle.profile.specs.Header.{Who, is_partner, who_text}
-use Rattle.profile.specs.Register.{Entry, mark}
-use Rattle.profile.specs.Readings.{is_entry}
-use Rattle.profile.specs.Tables.{entry_row, entries_on}
-use Rattle.profile.proofs.RegisterLaws.{legal-entries}
-use Rattle.profile.proofs.TextLaws.{both_parts}
+use Rattle.definitions.specs.Rules.{Today}
+use Rattle.definitions.specs.Header.{Who, is_partner, who_text}
+use Rattle.definitions.specs.Register.{Entry, mark}
+use Rattle.definitions.specs.Readings.{is_entry}
+use Rattle.definitions.specs.Tables.{entry_row, entries_on}
+use Rattle.definitions.proofs.RegisterLaws.{legal-entries}
+use Rattle.definitions.proofs.TextLaws.{both_parts}
 use Rattle.rules.specs.Written.{Written, written}
 use Rattle.rules.proofs.Depositors.{partner_of}
 use Rattle.store.specs.Replayed.{written_on, all_written, is_under}
@@ -109,7 +109,7 @@ under_found W L who key db rows partner stands h =
     let entries = let r = stands.rows in r table.Entry in
     under_shown (who_text who) key db.trees rows (subst IsTable (sym entries) (entries_rise [] L)) (read.answer value.Null)
     ∙ ap (λ src. map shows (filter (whose (who_text who) key) src)) entries
-    ∙ under_told who key [] L (legal-entries Two W L stands.legal) partner
+    ∙ under_told who key [] L (legal-entries Today W L stands.legal) partner
 
 -- The first that passes.
 

@@ -15,13 +15,13 @@ use Rattle.sqlite_schema.specs.Rules.{equal}
 use Rattle.sqlite_rules.specs.Lists.{Has}
 use Rattle.sqlite_rules.proofs.ListLemmas.{has_filtered, has_found, has_kept}
 use Rattle.sqlite_rules.proofs.ProbeLemmas.{has_mapped, mapped_has}
-use Rattle.profile.specs.declared.rules.Rules.TheVariants.{Two}
-use Rattle.profile.specs.Bytes.{comes_before}
-use Rattle.profile.specs.Header.{Who, is_partner, who_text}
-use Rattle.profile.specs.Register.{Entry, own}
-use Rattle.profile.specs.Accepted.{IsLegal}
-use Rattle.profile.specs.Tables.{Text, TableRow, for_each}
-use Rattle.profile.proofs.TextLaws.{text_is as bytes_same}
+use Rattle.definitions.specs.Rules.{Today}
+use Rattle.definitions.specs.Bytes.{comes_before}
+use Rattle.definitions.specs.Header.{Who, is_partner, who_text}
+use Rattle.definitions.specs.Register.{Entry, own}
+use Rattle.definitions.specs.Accepted.{IsLegal}
+use Rattle.definitions.specs.Tables.{Text, TableRow, for_each}
+use Rattle.definitions.proofs.TextLaws.{text_is as bytes_same}
 use Rattle.rules.specs.Keyed.{rises_by}
 use Rattle.rules.proofs.KeyLemmas.{texts_strict}
 use Rattle.book_statements.specs.Held.{values}
@@ -33,7 +33,7 @@ use Rattle.book_tables.proofs.Under.{own_row, table_row, IsUnder}
 use Rattle.book_tables.proofs.UnderKey.{equal_bytes}
 use Rattle.book_statements.proofs.Values.{and_true}
 
-module _ (W : Who) (L : List Entry) (who : Who) (legal : IsLegal Two W L) (partner : is_partner who ≡ true) (rows : List Entry → List TableRow) (nothing : rows [] ≡ []) where
+module _ (W : Who) (L : List Entry) (who : Who) (legal : IsLegal Today W L) (partner : is_partner who ≡ true) (rows : List Entry → List TableRow) (nothing : rows [] ≡ []) where
   abbrev t : List ℕ
   t = who_text who
 

@@ -19,11 +19,11 @@ use Rattle.sqlite_schema.specs.Rules.{equal}
 use Rattle.sqlite_rules.specs.Lists.{Has}
 use Rattle.sqlite_rules.proofs.ListLemmas.{has_filtered, has_kept}
 use Rattle.sqlite_rules.proofs.ProbeLemmas.{has_mapped, mapped_has}
-use Rattle.profile.specs.declared.rules.Rules.TheVariants.{Two}
-use Rattle.profile.specs.Header.{Who, is_partner, who_text}
-use Rattle.profile.specs.Register.{Entry, own}
-use Rattle.profile.specs.Accepted.{IsLegal}
-use Rattle.profile.specs.Tables.{Text, TableRow, for_each}
+use Rattle.definitions.specs.Rules.{Today}
+use Rattle.definitions.specs.Header.{Who, is_partner, who_text}
+use Rattle.definitions.specs.Register.{Entry, own}
+use Rattle.definitions.specs.Accepted.{IsLegal}
+use Rattle.definitions.specs.Tables.{Text, TableRow, for_each}
 use Rattle.rules.specs.Keyed.{rises_by}
 use Rattle.book_statements.specs.Held.{values, Holds}
 use Rattle.book_statements.specs.Steps.{key_of}
@@ -108,7 +108,7 @@ module _ {M : Type 0} (test : Term) (cells : M → TableRow) (tree : ℕ) (proje
 
 -- A table of depositors whose rows are the cells of models, of which a test of these tells those
 -- that pass.
-module _ (W : Who) (L : List Entry) (who : Who) (legal : IsLegal Two W L) (partner : is_partner who ≡ true) (rows : List Entry → List TableRow) (nothing : rows [] ≡ []) where
+module _ (W : Who) (L : List Entry) (who : Who) (legal : IsLegal Today W L) (partner : is_partner who ≡ true) (rows : List Entry → List TableRow) (nothing : rows [] ≡ []) where
   abbrev t : List ℕ
   t = who_text who
 

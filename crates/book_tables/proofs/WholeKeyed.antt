@@ -13,7 +13,7 @@ use Rattle.sqlite_value.specs.declared.keys.Key.{Key}
 use Rattle.sqlite_catalog.specs.Listing.{IsSound}
 use Rattle.sqlite_rules.specs.Lists.{Has}
 use Rattle.sqlite_rules.proofs.ListLemmas.{all_has}
-use Rattle.profile.specs.Tables.{TableRow}
+use Rattle.definitions.specs.Tables.{TableRow}
 use Rattle.book_tables.specs.Comparing.{AreTables}
 use Rattle.book_statements.specs.Held.{values, Holds}
 use Rattle.sqlite.specs.Schema.{Schema}

@@ -20,7 +20,7 @@ use Rattle.sqlite_value.proofs.OrderLemmas.{value_cmp-apart}
 use Rattle.sqlite_catalog.specs.Listing.{IsSound}
 use Rattle.sqlite_rules.specs.Lists.{Has}
 use Rattle.sqlite_rules.proofs.ProbeLemmas.{has_mapped, mapped_has}
-use Rattle.profile.specs.Tables.{TableRow}
+use Rattle.definitions.specs.Tables.{TableRow}
 use Rattle.book_statements.specs.Held.{values, Holds}
 use Rattle.sqlite.specs.Schema.{Schema}
 use Rattle.sqlite.specs.Effect.{Database, IsDatabase}

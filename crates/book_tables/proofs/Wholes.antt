@@ -1,7 +1,7 @@
 -- An advice and an order that are looked up in parts.
 use Rattle.std.proofs.Common.{◌≡◌, List, None, Some, Option, option_map, refl, sym, ap, ◌∙◌}
-use Rattle.profile.specs.Means.{Line}
-use Rattle.profile.specs.Page.{PageAdvice, PageLine, PageOrder}
+use Rattle.definitions.specs.Means.{Line}
+use Rattle.definitions.specs.Page.{PageAdvice, PageLine, PageOrder}
 use Rattle.book_tables.specs.Looking.{bare_advice, lines_advised, bare_order, lines_ordered, lines_reserved}
 
 module _ {A B : Type 0} (f : A → B) where

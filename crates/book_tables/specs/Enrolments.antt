@@ -4,9 +4,9 @@ use Rattle.std.specs.Prelude.{◌≡◌, ℕ, ◌+◌, pos, false, not, List, []
 use Rattle.sqlite.specs.Order.{Row}
 use Rattle.sqlite.specs.declared.types.Value.TheVariants.{Int, Text}
 use Rattle.sqlite_rules.specs.Lists.{Has}
-use Rattle.profile.specs.Bytes.{comes_before}
-use Rattle.profile.specs.Header.{Who, who_text}
-use Rattle.profile.specs.Register.{Entry, is_numbered}
+use Rattle.definitions.specs.Bytes.{comes_before}
+use Rattle.definitions.specs.Header.{Who, who_text}
+use Rattle.definitions.specs.Register.{Entry, is_numbered}
 
 -- the number of the entry in the register, and who was enrolled
 pub record EnrolmentFacts : Type 0 where

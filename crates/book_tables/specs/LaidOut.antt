@@ -5,7 +5,7 @@ use Rattle.sqlite.specs.Table.{Table}
 use Rattle.sqlite_schema.specs.declared.schema.Column.{Column}
 use Rattle.sqlite_schema.specs.declared.schema.Kind.{Kind}
 use Rattle.sqlite.specs.Kind.TheVariants.{Integer, Text, Blob}
-use Rattle.profile.specs.Schema.{Schema, TableColumn, ColumnType, OfNumbers, OfTexts, OfBlobs, Check, AtLeastZero, AtMost}
+use Rattle.definitions.specs.Schema.{Schema, TableColumn, ColumnType, OfNumbers, OfTexts, OfBlobs, Check, AtLeastZero, AtMost}
 use Rattle.sqlite.specs.Collation.TheVariants.{Binary}
 use Rattle.sqlite.specs.Term.{Term, col, op2}
 use Rattle.sqlite_sql.specs.declared.ops.BinaryOp.TheVariants.{Compare, And}

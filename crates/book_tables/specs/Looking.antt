@@ -1,8 +1,8 @@
 -- What is looked up under a number: parts of advices and of orders, and what went out.
 use Rattle.std.specs.Prelude.{◌≡◌, ℕ, List, [], None, Some, Option}
-use Rattle.profile.specs.Means.{Line}
-use Rattle.profile.specs.Page.{PageAdvice, PageLine, PageOrder, PageDocument}
-use Rattle.profile.specs.Rows.{OutRow, state_text}
+use Rattle.definitions.specs.Means.{Line}
+use Rattle.definitions.specs.Page.{PageAdvice, PageLine, PageOrder, PageDocument}
+use Rattle.definitions.specs.Rows.{OutRow, state_text}
 use Rattle.rules.specs.Functions.{function_text}
 use Rattle.rules.specs.Function.{Function}
 use Rattle.rules.specs.Function.TheVariants as functions

@@ -4,11 +4,11 @@ use Rattle.std.specs.Prelude.{◌≡◌, ◌==◌, ℕ, false, ◌||◌, List, [
 use Rattle.sqlite.specs.Held.{state}
 use Rattle.sqlite.specs.State.{HasCleanDisk}
 use Rattle.sqlite.specs.Store.{Ghosts}
-use Rattle.profile.specs.Bytes.{is_one_of}
-use Rattle.profile.specs.Header.{Who}
-use Rattle.profile.specs.Need.{Need, is_number_of, part}
-use Rattle.profile.specs.Page.{page_of}
-use Rattle.profile.specs.Register.{Entry, own}
+use Rattle.definitions.specs.Bytes.{is_one_of}
+use Rattle.definitions.specs.Header.{Who}
+use Rattle.definitions.specs.Need.{Need, is_number_of, part}
+use Rattle.definitions.specs.Page.{page_of}
+use Rattle.definitions.specs.Register.{Entry, own}
 use Rattle.rules.specs.Pages.{PageFacts}
 use Rattle.rules.specs.Parts.{Named, part_of}
 use Rattle.rules.specs.Naming.{facts_of}

@@ -5,8 +5,8 @@ use Rattle.std.specs.List.{AllByRecursion}
 use Rattle.sqlite.specs.Order.{Row, column}
 use Rattle.sqlite.specs.State.{State}
 use Rattle.sqlite.specs.declared.types.Value.TheVariants.{Text}
-use Rattle.profile.specs.Header.{Who, who_text}
-use Rattle.profile.specs.Tables.{flag}
+use Rattle.definitions.specs.Header.{Who, who_text}
+use Rattle.definitions.specs.Tables.{flag}
 use Rattle.book_statements.specs.Held.{value_of}
 use Rattle.book_tables.specs.Answering.{Answers}
 

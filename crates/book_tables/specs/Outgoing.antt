@@ -4,7 +4,7 @@ use Rattle.std.specs.List.{AllByRecursion}
 use Rattle.sqlite.specs.Order.{Row}
 use Rattle.sqlite.specs.State.{State}
 use Rattle.sqlite.specs.declared.types.Value.TheVariants.{Int, Text}
-use Rattle.profile.specs.Header.{Who, who_text}
+use Rattle.definitions.specs.Header.{Who, who_text}
 use Rattle.book_tables.specs.Answering.{Answers}
 use Rattle.book_tables.specs.Showing.{HasKindAndState, IsOut}
 

@@ -3,11 +3,11 @@ use Rattle.std.specs.Prelude.{◌≡◌, ◌<◌, ◌^◌, ◌+◌, ℕ, Bool, t
 use Rattle.std.specs.Borrow.{Bor}
 use Rattle.sqlite.specs.declared.types.Value.TheVariants.{Int, Text, Blob}
 use Rattle.sqlite.specs.Order.{Row, column}
-use Rattle.profile.specs.Means.{Line}
-use Rattle.profile.specs.Page.{PageAdvice, PageLine, PageOrder}
-use Rattle.profile.specs.Rows.{LotRow, OutRow}
-use Rattle.profile.specs.Tables as cell
-use Rattle.profile.specs.Tables.{Cell, flag, text_or_null, address_cells}
+use Rattle.definitions.specs.Means.{Line}
+use Rattle.definitions.specs.Page.{PageAdvice, PageLine, PageOrder}
+use Rattle.definitions.specs.Rows.{LotRow, OutRow}
+use Rattle.definitions.specs.Tables as cell
+use Rattle.definitions.specs.Tables.{Cell, flag, text_or_null, address_cells}
 use Rattle.rules.specs.OutKind.{OutKind}
 use Rattle.rules.specs.OutKind.TheVariants.{Answer}
 use Rattle.store.specs.declared.rows.DocumentState.{DocumentState}

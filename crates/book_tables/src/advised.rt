@@ -1,8 +1,8 @@
 ghost use Rattle.std.specs.Prelude.{◌≡◌, ◌<◌, [], Some, IfErr, IfOk, length, option_map};
-ghost use Rattle.profile.specs.declared.rules.Rules.TheVariants.{Two};
-ghost use Rattle.profile.specs.Limits.{most_lines};
-ghost use Rattle.profile.specs.Page.{PageAdvice, page_of};
-ghost use Rattle.profile.specs.Register as register;
+ghost use Rattle.definitions.specs.Rules.{Today};
+ghost use Rattle.definitions.specs.Limits.{most_lines};
+ghost use Rattle.definitions.specs.Page.{PageAdvice, page_of};
+ghost use Rattle.definitions.specs.Register as register;
 ghost use Rattle.rules.specs.Pages.{advice_at};
 ghost use Rattle.book_statements.specs.Asking.{Asked, OfStanding};
 ghost use Rattle.book_tables.specs.Looking.{bare_advice, lines_advised};
@@ -11,7 +11,7 @@ ghost use Rattle.book_tables.specs.Showing.{advice_shown};
 use crate::connected::Tables;
 use crate::line_rows::lines_in;
 use crate::reading::{flag_at, text_at};
-use profile::MOST_LINES_TWO;
+use definitions::MOST_LINES_TWO;
 use rules::{Goods, KnownAdvice, Who};
 use sqlite::{Alter, Row};
 use std::alloc::{AllocError, Global};
@@ -63,7 +63,7 @@ fn advice_in(alloc: Global, row: &Row) -> Result<Option<BareAdvice>, AllocError>
 fn with_lines(bare: BareAdvice, lines: Vec<Goods>) -> Result<Option<KnownAdvice>, Fault>
     ensures whole { IfOk result (λ advice. advice ≡ Some (record bare { lines = lines.items })) }
     ensures many { IfErr result (λ fault. (fault ≡ Fault.NotThisBook)
-        × (most_lines Two < length lines.items)) }
+        × (most_lines Today < length lines.items)) }
 {
     if lines.len() > usize::from(MOST_LINES_TWO) {
         return Err(Fault::NotThisBook);

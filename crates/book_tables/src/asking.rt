@@ -1,5 +1,5 @@
 ghost use Rattle.std.specs.Prelude.{◌≡◌, ◌<◌, ◌^◌, IfOk, length};
-ghost use Rattle.profile.specs.Register as register;
+ghost use Rattle.definitions.specs.Register as register;
 ghost use Rattle.sqlite.specs.Held.{state};
 ghost use Rattle.book_statements.specs.Asking.{IsAsked, OfStandingAs};
 ghost use Rattle.book_statements.specs.Limits.{Called};
@@ -7,7 +7,7 @@ ghost use Rattle.book_tables.specs.Housing.{TellsHouse};
 
 use crate::connected::Tables;
 use crate::reading::house_of;
-use profile::Rules;
+use definitions::Rules;
 use rules::Warehouse;
 use sqlite::Alter;
 use store::Fault;

@@ -1,6 +1,6 @@
 ghost use Rattle.std.specs.Borrow.{Bor};
 ghost use Rattle.std.specs.Prelude.{◌≡◌, ◌∷◌, ◌&&◌, ℕ, List, None, Some, IfOk, bytes_eq, if◌then◌else◌, map, option_map, true};
-ghost use Rattle.profile.specs.Rows.{LotRow};
+ghost use Rattle.definitions.specs.Rows.{LotRow};
 ghost use Rattle.sqlite.specs.Order.{column};
 ghost use Rattle.sqlite.specs.declared.types.Value.TheVariants.{Text};
 ghost use Rattle.rules.specs.Keyed.{key_before, rises_by, row_key};

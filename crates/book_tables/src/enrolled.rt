@@ -3,8 +3,8 @@
 ghost use Rattle.std.specs.Prelude.{◌≡◌, ◌∷◌, [], ◌++◌, not, ◌==◌, true, Some, IfOk, IsTrue, OnOk, length, map};
 ghost use Rattle.std.specs.List.Sorted.{IsPermutation, IsSortedByKey};
 ghost use Rattle.std.specs.Ordering.{nat_cmp};
-ghost use Rattle.profile.specs.Header.{is_partner};
-ghost use Rattle.profile.specs.Register as register;
+ghost use Rattle.definitions.specs.Header.{is_partner};
+ghost use Rattle.definitions.specs.Register as register;
 ghost use Rattle.sqlite.specs.declared.types.Value.TheVariants as value;
 ghost use Rattle.sqlite.specs.Held.{state};
 ghost use Rattle.sqlite.specs.State.{HasCleanDisk};

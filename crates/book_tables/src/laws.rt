@@ -1,11 +1,11 @@
 //! Laws of the tables: nothing runs, each contract is a law.
 ghost use Rattle.std.specs.Prelude.{◌≡◌, List, take};
-ghost use Rattle.profile.specs.declared.rules.Rules.{Rules};
-ghost use Rattle.profile.specs.declared.rules.Rules.TheVariants.{One, Two};
-ghost use Rattle.profile.specs.Header.{Who};
-ghost use Rattle.profile.specs.Register.{Entry};
-ghost use Rattle.profile.specs.Schema.{schemas};
-ghost use Rattle.profile.specs.Tables.{tables};
+ghost use Rattle.definitions.specs.declared.rules.Rules.{Rules};
+ghost use Rattle.definitions.specs.declared.rules.Rules.TheVariants.{One, Two};
+ghost use Rattle.definitions.specs.Header.{Who};
+ghost use Rattle.definitions.specs.Register.{Entry};
+ghost use Rattle.definitions.specs.Schema.{schemas};
+ghost use Rattle.definitions.specs.Tables.{tables};
 ghost use Rattle.sqlite.specs.Tree.{Trees};
 ghost use Rattle.book_tables.specs.LaidOut.{AreLaidOut};
 ghost use Rattle.book_statements.specs.Layout.{book_tables};

@@ -1,7 +1,7 @@
 ghost use Rattle.std.specs.Prelude.{◌≡◌, ◌<◌, ◌^◌, List, Some, IfOk, map, option_map, true, length, IfSome, ◌≤◌};
 ghost use Rattle.std.specs.List.{list_all};
-ghost use Rattle.profile.specs.declared.rules.Rules.TheVariants.{Two};
-ghost use Rattle.profile.specs.Means.{Line};
+ghost use Rattle.definitions.specs.Rules.{Today};
+ghost use Rattle.definitions.specs.Means.{Line};
 ghost use Rattle.rules.specs.Fitting.{is_fitting_line};
 ghost use Rattle.book_tables.specs.Showing.{line_shown};
 
@@ -33,7 +33,7 @@ fn line_in(alloc: Global, row: &Row) -> Result<Option<Goods>, AllocError>
 
 /// The lines that rows of item, lot and quantity show; None where one of them shows none.
 pub(crate) fn lines_in(alloc: Global, rows: &[Row]) -> Result<Option<Vec<Goods>>, AllocError>
-    ensures shows { (ls : List Line) → list_all (is_fitting_line Two) ls ≡ true
+    ensures shows { (ls : List Line) → list_all (is_fitting_line Today) ls ≡ true
         → rows.now ≡ map line_shown ls → IfOk result
         (λ shown. option_map (λ v. v.items) shown ≡ Some ls) }
     ensures all { IfOk result (λ shown. IfSome shown (λ v. length rows.now ≤ length v.items)) }

@@ -1,9 +1,9 @@
 ghost use Rattle.std.specs.Borrow.{Bor};
 ghost use Rattle.std.specs.Prelude.{◌≡◌, ◌<◌, ◌^◌, ℕ, List, Some, IfOk, bytes_eq, filter, map, option_map, true, length, IfSome, ◌≤◌};
 ghost use Rattle.std.specs.List.{list_all};
-ghost use Rattle.profile.specs.Page.{page_of};
-ghost use Rattle.profile.specs.Register as register;
-ghost use Rattle.profile.specs.Rows.{LotRow, stock_rows};
+ghost use Rattle.definitions.specs.Page.{page_of};
+ghost use Rattle.definitions.specs.Register as register;
+ghost use Rattle.definitions.specs.Rows.{LotRow, stock_rows};
 ghost use Rattle.rules.specs.Keyed.{key_before, rises_by, row_key};
 ghost use Rattle.rules.specs.Fitting.{is_fitting_row};
 ghost use Rattle.book_statements.specs.Asking.{Asked, OfStanding};

@@ -4,10 +4,10 @@ ghost use Rattle.std.specs.Prelude.{◌≡◌, ◌++◌, ℕ, fold, flat_map, ma
 ghost use Rattle.std.specs.Cmp.Lexicographic.{slice_cmp};
 ghost use Rattle.std.specs.List.Sorted.{IsStrictlyIncreasing, IsStrictlySortedBy};
 ghost use Rattle.std.specs.Ordering.{nat_cmp};
-ghost use Rattle.profile.specs.Bytes.{is_one_of};
-ghost use Rattle.profile.specs.Need as meant;
-ghost use Rattle.profile.specs.Register as register;
-ghost use Rattle.profile.specs.Page.{page_of};
+ghost use Rattle.definitions.specs.Bytes.{is_one_of};
+ghost use Rattle.definitions.specs.Need as meant;
+ghost use Rattle.definitions.specs.Register as register;
+ghost use Rattle.definitions.specs.Page.{page_of};
 ghost use Rattle.rules.specs.Keyed.{put_row};
 ghost use Rattle.rules.specs.Decided.{IsAtRest};
 ghost use Rattle.rules.specs.Naming.{facts_of, named_of};

@@ -1,5 +1,5 @@
 ghost use Rattle.std.specs.Prelude.{◌≡◌, ◌∷◌, [], ◌<◌, ◌^◌, pos, Some, IfOk, OnOk, IsTrue, option_map};
-ghost use Rattle.profile.specs.Register as register;
+ghost use Rattle.definitions.specs.Register as register;
 ghost use Rattle.rules.specs.Written.{Written};
 ghost use Rattle.sqlite.specs.declared.types.Value.TheVariants as value;
 ghost use Rattle.sqlite.specs.Held.{state};
@@ -11,7 +11,7 @@ ghost use Rattle.book_statements.specs.Recorded.{IsOfPartner, numbered_shown, nu
 
 use crate::connected::Tables;
 use crate::reading::{blob_at, moment_of, rules_in, small_at, text_at};
-use profile::Rules;
+use definitions::Rules;
 use rules::{Entry, Who};
 use sqlite::types::ValueRef;
 use sqlite::{Alter, Row};

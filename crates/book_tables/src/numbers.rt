@@ -1,7 +1,7 @@
 ghost use Rattle.std.specs.Prelude.{◌≡◌, ◌≢◌, Some, IfOk, IfSome, IsTrue, OnOk, Option as Maybe, option_map};
-ghost use Rattle.profile.specs.Page.{PageDocument, page_of};
-ghost use Rattle.profile.specs.Register as register;
-ghost use Rattle.profile.specs.Rows.{OutRow, state_text};
+ghost use Rattle.definitions.specs.Page.{PageDocument, page_of};
+ghost use Rattle.definitions.specs.Register as register;
+ghost use Rattle.definitions.specs.Rows.{OutRow, state_text};
 ghost use Rattle.sqlite.specs.Held.{state};
 ghost use Rattle.sqlite.specs.State.{HasCleanDisk};
 ghost use Rattle.rules.specs.Pages.{document_at};

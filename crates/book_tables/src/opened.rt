@@ -2,8 +2,8 @@
 //! page that they name.
 ghost use Rattle.std.specs.Prelude.{◌≡◌, ℕ, List, Some, true, MatchOption, IfOk, map, option_map, length, IfSome, ◌≤◌};
 ghost use Rattle.std.specs.List.{AllByRecursion};
-ghost use Rattle.profile.specs.Register as register;
-ghost use Rattle.profile.specs.Tables.{flag};
+ghost use Rattle.definitions.specs.Register as register;
+ghost use Rattle.definitions.specs.Tables.{flag};
 ghost use Rattle.rules.specs.Keyed.{number_of, shipment_of};
 ghost use Rattle.sqlite.specs.declared.types.Value.TheVariants as value;
 ghost use Rattle.sqlite.specs.Held.{state};

@@ -1,10 +1,10 @@
 ghost use Rattle.std.specs.Prelude.{◌≡◌, ◌<◌, ◌^◌, ℕ, List, Option, Some, IfOk, map, option_map, true, length, IfSome, MatchOption, ◌≤◌};
 ghost use Rattle.std.specs.List.{list_all};
-ghost use Rattle.profile.specs.declared.rules.Rules.TheVariants.{Two};
-ghost use Rattle.profile.specs.Means.{Address as Told};
-ghost use Rattle.profile.specs.Tables.{address_cells, text_or_null};
-ghost use Rattle.profile.specs.Page.{PageLine, PageOrder, page_of};
-ghost use Rattle.profile.specs.Register as register;
+ghost use Rattle.definitions.specs.Rules.{Today};
+ghost use Rattle.definitions.specs.Means.{Address as Told};
+ghost use Rattle.definitions.specs.Tables.{address_cells, text_or_null};
+ghost use Rattle.definitions.specs.Page.{PageLine, PageOrder, page_of};
+ghost use Rattle.definitions.specs.Register as register;
 ghost use Rattle.rules.specs.Pages.{order_at};
 ghost use Rattle.rules.specs.Fitting.{is_fitting_ordered};
 ghost use Rattle.sqlite.specs.Order.{column};
@@ -136,7 +136,7 @@ fn order_line_in(alloc: Global, row: &Row) -> Result<Option<KnownLine>, AllocErr
 
 // The lines that rows of item, lot and quantity show; None where one of them shows none.
 fn order_lines_in(alloc: Global, rows: &[Row]) -> Result<Option<Vec<KnownLine>>, AllocError>
-    ensures shows { (ls : List PageLine) → list_all (is_fitting_ordered Two) ls ≡ true
+    ensures shows { (ls : List PageLine) → list_all (is_fitting_ordered Today) ls ≡ true
         → rows.now ≡ map order_line_shown ls → IfOk result
         (λ shown. option_map (λ v. v.items) shown ≡ Some ls) }
     ensures all { IfOk result (λ shown. IfSome shown (λ v. length rows.now ≤ length v.items)) }

@@ -1,10 +1,10 @@
 ghost use Rattle.std.specs.Prelude.{◌≡◌, ◌∷◌, [], ℕ, Bool, List, Option, Some, true, false, MatchOption, IfSome, IsNone, pos, length, ◌≤◌, ◌<◌, ◌^◌};
-ghost use Rattle.profile.specs.Header.{Who as Partner};
-ghost use Rattle.profile.specs.Bytes as bytes;
-ghost use Rattle.profile.specs.Moments.{Moment as Parts, is_moment};
-ghost use Rattle.profile.specs.Readings as written;
-ghost use Rattle.profile.specs.Rules.{rules_number};
-ghost use Rattle.profile.specs.Tables.{flag, text_or_null};
+ghost use Rattle.definitions.specs.Header.{Who as Partner};
+ghost use Rattle.definitions.specs.Bytes as bytes;
+ghost use Rattle.definitions.specs.Moments.{Moment as Parts, is_moment};
+ghost use Rattle.definitions.specs.Readings as written;
+ghost use Rattle.definitions.specs.Rules.{rules_number};
+ghost use Rattle.definitions.specs.Tables.{flag, text_or_null};
 ghost use Rattle.sqlite.specs.Order.{column};
 ghost use Rattle.sqlite.specs.declared.types.Value.TheVariants.{Int, Text, Blob};
 ghost use Rattle.sqlite_value.specs.Value.{owned};
@@ -13,7 +13,7 @@ ghost use Rattle.book_statements.specs.Held.{value_of};
 ghost use Rattle.book_statements.specs.Recorded.{IsHouse, rules_shown};
 ghost use Rattle.book_tables.specs.Showing.{is_state_of, lent_text, IsSentAs};
 
-use profile::Rules;
+use definitions::Rules;
 use rules::{Moment, OutKind, Warehouse, Who};
 use segments::value_up_to;
 use sqlite::Row;

@@ -1,7 +1,7 @@
 ghost use Rattle.std.specs.Prelude.{◌≡◌, ◌++◌, ◌∷◌, ℕ, List, Some, IfOk, IfSome, option_map, if◌then◌else◌};
-ghost use Rattle.profile.specs.Decision.{recalled};
-ghost use Rattle.profile.specs.Register as register;
-ghost use Rattle.profile.specs.Reply.{out};
+ghost use Rattle.definitions.specs.Decision.{recalled};
+ghost use Rattle.definitions.specs.Register as register;
+ghost use Rattle.definitions.specs.Reply.{out};
 ghost use Rattle.rules.specs.Decided.{IsRecalled};
 ghost use Rattle.sqlite.specs.Held.{state};
 ghost use Rattle.sqlite.specs.State.{HasCleanDisk};

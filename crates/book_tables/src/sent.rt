@@ -1,7 +1,7 @@
 ghost use Rattle.std.specs.Prelude.{◌≡◌, List, Some, IfOk, IfSome, map, option_map, filter, length, nat_lt};
 ghost use Rattle.std.specs.List.{AllByRecursion};
-ghost use Rattle.profile.specs.Register as register;
-ghost use Rattle.profile.specs.Rows as meant;
+ghost use Rattle.definitions.specs.Register as register;
+ghost use Rattle.definitions.specs.Rows as meant;
 ghost use Rattle.sqlite.specs.declared.types.Value.TheVariants as value;
 ghost use Rattle.sqlite.specs.Held.{state};
 ghost use Rattle.sqlite.specs.Order.{column};

@@ -1,6 +1,6 @@
 ghost use Rattle.std.specs.Prelude.{◌≡◌, IfOk, IfSome, option_map};
-ghost use Rattle.profile.specs.Register as register;
-ghost use Rattle.profile.specs.Rows as meant;
+ghost use Rattle.definitions.specs.Register as register;
+ghost use Rattle.definitions.specs.Rows as meant;
 ghost use Rattle.sqlite.specs.Held.{state};
 ghost use Rattle.sqlite.specs.State.{HasCleanDisk};
 ghost use Rattle.store.specs.Sent.{text_of};

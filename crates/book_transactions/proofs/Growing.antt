@@ -4,8 +4,8 @@ use Rattle.sqlite.specs.Tree.{Trees}
 use Rattle.sqlite.specs.Effect.{IsDatabase}
 use Rattle.sqlite.specs.State.{State, IsLive, HasCleanDisk, Survives}
 use Rattle.sqlite.proofs.StateLemmas.{survives_then}
-use Rattle.profile.specs.Header.{Who, who_text}
-use Rattle.profile.specs.Register.{Entry}
+use Rattle.definitions.specs.Header.{Who, who_text}
+use Rattle.definitions.specs.Register.{Entry}
 use Rattle.rules.specs.Written.{Written}
 use Rattle.rules.specs.Tabled.{table_changes}
 use Rattle.rules.specs.Change as stock

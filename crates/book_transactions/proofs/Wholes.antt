@@ -4,10 +4,10 @@ use Rattle.sqlite.specs.Held.{Held, state}
 use Rattle.sqlite.specs.Store.{Ghosts}
 use Rattle.sqlite.specs.Tree.{Trees}
 use Rattle.sqlite.specs.State.{State, IsLive}
-use Rattle.profile.specs.declared.rules.Rules.TheVariants.{One, Two}
-use Rattle.profile.specs.Accepted.{IsLegal}
-use Rattle.profile.specs.Header.{Who, who_text}
-use Rattle.profile.specs.Register.{Entry}
+use Rattle.definitions.specs.declared.rules.Rules.TheVariants.{One, Two}
+use Rattle.definitions.specs.Accepted.{IsLegal}
+use Rattle.definitions.specs.Header.{Who, who_text}
+use Rattle.definitions.specs.Register.{Entry}
 use Rattle.rules.specs.Written.{Written}
 use Rattle.rules.specs.Tabled.{table_changes}
 use Rattle.rules.specs.Change as stock

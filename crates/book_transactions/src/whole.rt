@@ -1,8 +1,8 @@
 ghost use Rattle.std.specs.Prelude.{◌≡◌, ◌<◌, ◌^◌, ◌++◌, ◌∷◌, [], List, false, length};
-ghost use Rattle.profile.specs.declared.rules.Rules.TheVariants.{One, Two};
-ghost use Rattle.profile.specs.Accepted.{IsLegal};
-ghost use Rattle.profile.specs.Header.{Who as Partner};
-ghost use Rattle.profile.specs.Register as register;
+ghost use Rattle.definitions.specs.declared.rules.Rules.TheVariants.{One, Two};
+ghost use Rattle.definitions.specs.Accepted.{IsLegal};
+ghost use Rattle.definitions.specs.Header.{Who as Partner};
+ghost use Rattle.definitions.specs.Register as register;
 ghost use Rattle.sqlite.specs.Held.{state};
 ghost use Rattle.book_statements.specs.Carrying.{CarriesOver, StandsOpenAs};
 ghost use Rattle.book_statements.specs.Exits.{IsAppended, HasGrown, StandsWithEntry};

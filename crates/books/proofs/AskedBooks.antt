@@ -2,8 +2,8 @@
 use Rattle.std.proofs.Common.{◌≡◌, ◌≤◌, inl, inr, ℕ, List, Bool, true, false, Result, Ok, Err, IfErr, length, refl, sym, subst, ◌∙◌}
 use Rattle.sqlite.specs.Tree.{Trees}
 use Rattle.sqlite.specs.State.{State, HasCleanDisk}
-use Rattle.profile.specs.Header.{Who}
-use Rattle.profile.specs.Register.{Entry}
+use Rattle.definitions.specs.Header.{Who}
+use Rattle.definitions.specs.Register.{Entry}
 use Rattle.store.specs.Fault.{Fault}
 use Rattle.store.specs.Standing.{IsUnchanged, IsUsable, IsReading, IsQuery, IsQueryFault}
 use Rattle.book_statements.specs.Asking.{IsAsked, IsAskFault}

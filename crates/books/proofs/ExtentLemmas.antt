@@ -1,7 +1,7 @@
 -- The moment of the last entry, by what is written down under its number.
 use Rattle.std.proofs.Common.{◌≡◌, ℕ, zero, suc, List, [], ◌∷◌, length, slice_get, Option, Some, None, refl, sym, ap, ◌∙◌, ◌-◌, arith}
-use Rattle.profile.specs.Moments.{Moment}
-use Rattle.profile.specs.Register.{Entry}
+use Rattle.definitions.specs.Moments.{Moment}
+use Rattle.definitions.specs.Register.{Entry}
 use Rattle.rules.specs.Written.{Written}
 use Rattle.store.specs.Extent.{last_moment}
 use Rattle.store.specs.Replayed.{all_written}

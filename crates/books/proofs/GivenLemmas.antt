@@ -1,7 +1,7 @@
 -- Options, and entries at their places.
 use Rattle.std.proofs.Common.{Bool, true, false, IsTrue, ◌≡◌, ◌<◌, ℕ, zero, suc, List, [], ◌∷◌, ◌++◌, length, Option, Some, None, get_or, slice_get, sym, refl, ◌∙◌, arith}
 use Rattle.std.specs.Prelude.{IsSomeAnd}
-use Rattle.profile.specs.Register.{Entry}
+use Rattle.definitions.specs.Register.{Entry}
 use Rattle.rules.specs.Written.{Written}
 use Rattle.store.specs.Fault.{Fault}
 use Rattle.store.specs.Fault.TheVariants.{OutOfMemory, Store, Reopen, NotThisBook, Device}

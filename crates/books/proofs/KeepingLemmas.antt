@@ -4,10 +4,10 @@ use Rattle.sqlite.specs.Tree.{Trees}
 use Rattle.std.specs.Prelude.{IsTrue, OnErr}
 use Rattle.sqlite.specs.Effect.{Database}
 use Rattle.sqlite.specs.State.{State, HasCleanDisk, IsLive, Survives}
-use Rattle.profile.specs.Header.{Who, who_text}
+use Rattle.definitions.specs.Header.{Who, who_text}
 use Rattle.rules.specs.Written.{Written}
 use Rattle.rules.specs.Change as stock
-use Rattle.profile.specs.Register.{Entry}
+use Rattle.definitions.specs.Register.{Entry}
 use Rattle.store.specs.Standing.{IsUsable, IsNext, LeavesEither}
 use Rattle.book_statements.specs.Standing.{StandsIn}
 use Rattle.book_statements.specs.Exits.{IsAppended, HasGrown, LeavesIt, StandsWhileOpen}

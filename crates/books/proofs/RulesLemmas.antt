@@ -1,15 +1,15 @@
 -- The rules of a register's entries, one after another.
 use Rattle.std.proofs.Common.{◌≡◌, Bool, true, false, List, [], ◌∷◌, ◌++◌, refl}
 use Rattle.std.specs.Prelude.{◌&&◌, IsTrue}
-use Rattle.profile.specs.declared.rules.Rules.{Rules}
-use Rattle.profile.specs.declared.rules.Rules.TheVariants.{One, Two}
-use Rattle.profile.specs.Rules.{may_follow}
-use Rattle.profile.specs.Header.{Who, is_partner}
-use Rattle.profile.specs.Moments.{Moment, is_moment}
-use Rattle.profile.specs.Register.{Command, Entry, never_fall}
-use Rattle.profile.specs.Accepted.{IsLegal, after, is_command}
-use Rattle.profile.proofs.CarriedLaws.{legal-carried}
-use Rattle.profile.proofs.TextLaws.{both_parts}
+use Rattle.definitions.specs.declared.rules.Rules.{Rules}
+use Rattle.definitions.specs.declared.rules.Rules.TheVariants.{One, Two}
+use Rattle.definitions.specs.Rules.{may_follow}
+use Rattle.definitions.specs.Header.{Who, is_partner}
+use Rattle.definitions.specs.Moments.{Moment, is_moment}
+use Rattle.definitions.specs.Register.{Command, Entry, never_fall}
+use Rattle.definitions.specs.Accepted.{IsLegal, after, is_command}
+use Rattle.definitions.proofs.CarriedLaws.{legal-carried}
+use Rattle.definitions.proofs.TextLaws.{both_parts}
 use Rattle.store.proofs.Replies.{legal_after}
 use Rattle.books.specs.Verified.{last_rules}
 

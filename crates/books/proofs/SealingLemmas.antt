@@ -1,8 +1,8 @@
 -- What is noted of the first entries that are written down.
 use Rattle.std.proofs.Common.{◌≡◌, ◌<◌, ◌≤◌, ℕ, ◌+◌, zero, suc, Bool, true, false, List, [], ◌∷◌, ◌++◌, length, take, slice_get, min, Option, Some, None, refl, sym, ap, ◌∙◌, arith, length-take}
 use Rattle.std.specs.Prelude.{option_map, nat_le, if◌then◌else◌}
-use Rattle.profile.specs.Moments.{Moment}
-use Rattle.profile.specs.Register.{Entry}
+use Rattle.definitions.specs.Moments.{Moment}
+use Rattle.definitions.specs.Register.{Entry}
 use Rattle.rules.specs.Written.{Written, written}
 use Rattle.store.specs.Replayed.{all_written, written_on}
 use Rattle.store.proofs.Entries.{there_on}

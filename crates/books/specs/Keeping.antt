@@ -2,10 +2,10 @@
 use Rattle.std.specs.Prelude.{◌≡◌, ℕ, Bool, List, length}
 use Rattle.sqlite.specs.State.{State}
 use Rattle.sqlite_trees.specs.View.{doubt}
-use Rattle.profile.specs.declared.rules.Rules.TheVariants.{Two}
-use Rattle.profile.specs.Header.{Who}
-use Rattle.profile.specs.Register.{Entry}
-use Rattle.profile.specs.Accepted.{IsLegal}
+use Rattle.definitions.specs.Rules.{Today}
+use Rattle.definitions.specs.Header.{Who}
+use Rattle.definitions.specs.Register.{Entry}
+use Rattle.definitions.specs.Accepted.{IsLegal}
 use Rattle.store.specs.Standing.{Standing}
 use Rattle.book_statements.specs.Exits.{AllStand, LeavesStanding, StandsWhileOpen}
 
@@ -29,7 +29,7 @@ standing_in s W entries refused shut = record {
 -- the tables stand for the legal register while the store is open, and a crash leaves what stands
 -- for it alone
 pub record IsSettled (s : State) (W : Who) (L : List Entry) : Type 0 where
-  pub legal : IsLegal Two W L
+  pub legal : IsLegal Today W L
   pub stands : StandsWhileOpen s W L
   pub stand : AllStand s W
   pub only : (M : List Entry) → LeavesStanding s W M → M ≡ L

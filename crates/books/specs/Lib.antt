@@ -3,3 +3,4 @@ pub mod Opened
 pub mod Verified
 pub mod Carrying
 pub mod Opening
+pub mod RamDisk

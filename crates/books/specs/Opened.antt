@@ -4,7 +4,7 @@ use Rattle.std.specs.Prelude.{ℕ, Bool, List, refl}
 use Rattle.std.specs.Coded.{Coded, code_by, coded×, coded_ℕ, coded_bool, coded_list}
 use Rattle.sqlite.specs.Store.{Ghosts}
 use Rattle.sqlite.specs.Held.{state}
-use Rattle.profile.specs.Header.{Who}
+use Rattle.definitions.specs.Header.{Who}
 use Rattle.store.specs.Standing.{Standing}
 use Rattle.book_statements.specs.Kept.{Kept, kept_code}
 use Rattle.books.specs.Keeping.{standing_in}

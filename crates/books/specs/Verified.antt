@@ -7,13 +7,13 @@ use Rattle.sqlite.specs.Held.{Held, state}
 use Rattle.sqlite.specs.Store.{Ghosts}
 use Rattle.sqlite.specs.Files.{over_files}
 use Rattle.sqlite_store.specs.declared.store.FileStore.{FileStore}
-use Rattle.ram_disk.specs.Ram.{ram}
-use Rattle.ram_disk.specs.declared.RamDisk.{RamDisk}
-use Rattle.profile.specs.declared.rules.Rules.{Rules}
-use Rattle.profile.specs.declared.rules.Rules.TheVariants.{One}
-use Rattle.profile.specs.Header.{Who}
-use Rattle.profile.specs.Register.{Entry}
-use Rattle.profile.specs.Accepted.{IsLegal}
+use Rattle.books.specs.RamDisk.{ram}
+use Rattle.books.specs.declared.ram_disk.RamDisk.{RamDisk}
+use Rattle.definitions.specs.declared.rules.Rules.{Rules}
+use Rattle.definitions.specs.declared.rules.Rules.TheVariants.{One}
+use Rattle.definitions.specs.Header.{Who}
+use Rattle.definitions.specs.Register.{Entry}
+use Rattle.definitions.specs.Accepted.{IsLegal}
 use Rattle.store.specs.Standing.{Standing, IsUsable, OfAnyKept}
 use Rattle.store.specs.Fault.{Fault}
 use Rattle.store.specs.Fault.TheVariants.{OutOfMemory, Store}

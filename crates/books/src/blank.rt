@@ -8,9 +8,9 @@ ghost use Rattle.books.specs.Opened.{standing_of};
 ghost use Rattle.books.specs.Verified.{over_ram};
 
 use crate::book::Book;
+use crate::ram_disk::RamDisk;
 use crate::verifying::of_copy;
 use book_tables::Tables;
-use ram_disk::RamDisk;
 use rules::Warehouse;
 use sqlite::{Alter, Connection, FileStore, Files, Options};
 use std::alloc::Global;

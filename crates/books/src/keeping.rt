@@ -1,8 +1,8 @@
 //! A book in tables kept: what it answers to commands and to questions, each from its tables.
 ghost use Rattle.std.specs.Prelude.{◌≡◌, ◌≤◌, ◌<◌, ◌^◌, ◌-◌, ◌++◌, ◌∷◌, [], List, true, false, IfErr, IfOk, OnOk, OnErr, IsErrOf, length, option_map};
-ghost use Rattle.profile.specs.Decision as decided;
-ghost use Rattle.profile.specs.Register as register;
-ghost use Rattle.profile.specs.Rows.{stock_of, outbox_of};
+ghost use Rattle.definitions.specs.Decision as decided;
+ghost use Rattle.definitions.specs.Register as register;
+ghost use Rattle.definitions.specs.Rows.{stock_of, outbox_of};
 ghost use Rattle.rules.specs.Asked.{mark_of};
 ghost use Rattle.rules.specs.Decided.{IsAtRest, IsRecalled};
 ghost use Rattle.store.specs.Extent as meant;

@@ -4,6 +4,7 @@
 mod blank;
 mod book;
 mod keeping;
+mod ram_disk;
 mod sealing;
 mod verifying;
 

@@ -1,10 +1,10 @@
 //! Whether the tables of a book are what its register says.
 ghost use Rattle.std.specs.Prelude.{◌<◌, ◌+◌, length, IfSome, IsSomeAnd, ◌≡◌, ◌++◌, ◌∷◌, [], List, true, IfErr, IfOk, Some};
-ghost use Rattle.profile.specs.declared.rules.Rules.TheVariants.{One, Two};
-ghost use Rattle.profile.specs.Rules as meant;
-ghost use Rattle.profile.specs.Accepted.{IsLegal};
-ghost use Rattle.profile.specs.Header.{Who as Partner};
-ghost use Rattle.profile.specs.Register as register;
+ghost use Rattle.definitions.specs.declared.rules.Rules.TheVariants.{One, Two};
+ghost use Rattle.definitions.specs.Rules as meant;
+ghost use Rattle.definitions.specs.Accepted.{IsLegal};
+ghost use Rattle.definitions.specs.Header.{Who as Partner};
+ghost use Rattle.definitions.specs.Register as register;
 ghost use Rattle.rules.specs.Written.{written};
 ghost use Rattle.sqlite.specs.Held.{state};
 ghost use Rattle.sqlite.specs.State.{HasCleanDisk};
@@ -16,7 +16,7 @@ ghost use Rattle.books.specs.Verified.{Follows, IsAlwaysClean, IsCopy, Stays, la
 
 use crate::book::{Book, GREATEST};
 use book_tables::Tables;
-use profile::Rules;
+use definitions::Rules;
 use rules::{Entry, command_of};
 use sqlite::Alter;
 use std::alloc::Global;

@@ -12,8 +12,8 @@ use Rattle.command_line.specs.declared.words.BookAct.{BookAct}
 use Rattle.command_line.specs.declared.words.BookAct.TheVariants as act
 use Rattle.command_line.specs.declared.words.Show.{Show}
 use Rattle.command_line.specs.declared.words.Show.TheVariants as show
-use Rattle.profile.specs.declared.sheet_kind.SheetKind.{SheetKind}
-use Rattle.profile.specs.declared.sheet_kind.SheetKind.TheVariants.{Count, Pick, Recount}
+use Rattle.definitions.specs.declared.sheet_kind.SheetKind.{SheetKind}
+use Rattle.definitions.specs.declared.sheet_kind.SheetKind.TheVariants.{Count, Pick, Recount}
 
 -- a fault that is handed on
 pub handed : {A P Q : Type 0} (r : Result A LineFault) (f : LineFault) → IsErrAnd r (λ g. g ≡ f) → LacksMemory P f → (Q → P)
@@ -51,9 +51,9 @@ named rows {name} {w} is has = subst (λ (n : Text). HasAll (n, rows)) (sym is) 
 module _ (rows : List Row) where
   clerk_has : (k : SheetKind) (who ticket number sheet : Text) → Has rows (codes "who") who → Has rows (codes "ticket") ticket
       → SaysNumberOf k rows number → Has rows (codes "sheet") sheet → HasAll (act_name k, rows)
-  clerk_has Count who ticket number sheet w t n s = ((λ _. (who, w)), ((λ _. (ticket, t)), ((λ _. (number, n)), ((λ _. (sheet, s)), (may, tt)))))
-  clerk_has Pick who ticket number sheet w t n s = ((λ _. (who, w)), ((λ _. (ticket, t)), ((λ _. (number, n)), ((λ _. (sheet, s)), (may, tt)))))
-  clerk_has Recount who ticket number sheet w t n s = ((λ _. (who, w)), ((λ _. (ticket, t)), ((λ _. (sheet, s)), (may, tt))))
+  clerk_has Count who ticket number sheet w t n s = ((λ _. (who, w)), ((λ _. (ticket, t)), ((λ _. (number, n)), ((λ _. (sheet, s)), (may, (may, tt))))))
+  clerk_has Pick who ticket number sheet w t n s = ((λ _. (who, w)), ((λ _. (ticket, t)), ((λ _. (number, n)), ((λ _. (sheet, s)), (may, (may, tt))))))
+  clerk_has Recount who ticket number sheet w t n s = ((λ _. (who, w)), ((λ _. (ticket, t)), ((λ _. (sheet, s)), (may, (may, tt)))))
 
   pub has_who : (k : SheetKind) → HasAll (act_name k, rows) → IsThere rows (codes "who")
   has_who Count has = has.0 refl
@@ -76,16 +76,17 @@ module _ (rows : List Row) where
   has_sheet Recount has = has.1.1.0 refl
 
 act_has : (f : Found) (a : BookAct) → SaysAct f a → HasAll f
-act_has f (act.Enrol who) s = named f.1 s.0 ((λ _. (who.now, s.1)), (may, tt))
+act_has f (act.Enrol who) s = named f.1 s.0 ((λ _. (who.now, s.1)), (may, (may, tt)))
 act_has f (act.Roster file) s = named f.1 s.0 ((λ _. (file.now, s.1)), (may, tt))
-act_has f (act.Send file) s = named f.1 s.0 ((λ _. (file.now, s.1)), (may, tt))
+act_has f (act.Send file) s = named f.1 s.0 ((λ _. (file.now, s.1)), (may, (may, tt)))
 act_has f (act.Take dir to) s = named f.1 s.0 ((λ _. (dir.now, s.1)), (may, (may, tt)))
 act_has f (act.Clerk t) s = named f.1 s.0 (clerk_has f.1 t.kind t.who.now t.ticket.now t.number.now t.sheet.now s.1.0 s.1.1 s.1.2 s.1.3)
 
 show_has : (f : Found) (s : Show) → SaysShow f s → HasAll f
 show_has f (show.Stock who is_csv) s = named f.1 s.0 ((λ _. (who.now, s.1)), (may, (may, tt)))
 show_has f (show.Open who) s = named f.1 s.0 ((λ _. (who.now, s.1)), (may, tt))
-show_has f (show.Order who number) s = named f.1 s.0 ((λ _. (who.now, s.1)), ((λ _. (number.now, s.2)), (may, tt)))
+show_has f (show.Advice who number is_csv) s = named f.1 s.0 ((λ _. (who.now, s.1)), ((λ _. (number.now, s.2)), (may, (may, tt))))
+show_has f (show.Order who number is_csv) s = named f.1 s.0 ((λ _. (who.now, s.1)), ((λ _. (number.now, s.2)), (may, (may, tt))))
 show_has f (show.Outbox who number) s = named f.1 s.0 ((λ _. (who.now, s.1)), (may, (may, (may, tt))))
 show_has f show.Depositors s = named f.1 s (may, tt)
 
@@ -94,6 +95,7 @@ hand_on_has f who dir s = named f.1 s.0 ((λ _. (who, s.1)), (may, (may, (may, t
 
 pub part_has : (f : Found) (t : Task) → SaysPart f t → HasAll f
 part_has f (task.Act a at) s = act_has f a s
+part_has f (task.Try a at) s = act_has f a s
 part_has f (task.Show a) s = show_has f a s
 part_has f (task.HandOn who dir) s = hand_on_has f who.now dir.now s
 part_has f (task.Init who) s = absurd s
@@ -105,6 +107,7 @@ part_has f (task.Seal first) s = absurd s
 pub task_has : (f : Found) (t : Task) → SaysTask f t → HasAll f
 task_has f (task.Init who) s = named f.1 s.0 ((λ _. (who.now, s.1)), (may, tt))
 task_has f (task.Act a at) s = act_has f a s.0
+task_has f (task.Try a at) s = act_has f a s.0
 task_has f (task.Show a) s = show_has f a s
 task_has f (task.HandOn who dir) s = hand_on_has f who.now dir.now s
 task_has f (task.Batch file) s = named f.1 s.0 ((λ _. (file.now, s.1)), tt)
@@ -133,18 +136,20 @@ module _ {A : Type 0} (f : Found) {b : Text} where
   no_act is e r s t c p x (act.Clerk clerk) says = clerk_name clerk.kind says.0 is c p x
 
   -- nothing that is shown has it
-  no_show : f.0 ≡ b → bytes_eq (codes "stock") b ≡ false → bytes_eq (codes "open") b ≡ false → bytes_eq (codes "orders") b ≡ false
+  no_show : f.0 ≡ b → bytes_eq (codes "stock") b ≡ false → bytes_eq (codes "open") b ≡ false → bytes_eq (codes "advices") b ≡ false → bytes_eq (codes "orders") b ≡ false
       → bytes_eq (codes "outbox") b ≡ false → bytes_eq (codes "depositors") b ≡ false → (a : Show) → SaysShow f a → A
-  no_show is s o r u d (show.Stock who is_csv) says = elsewhere says.0 is s
-  no_show is s o r u d (show.Open who) says = elsewhere says.0 is o
-  no_show is s o r u d (show.Order who number) says = elsewhere says.0 is r
-  no_show is s o r u d (show.Outbox who number) says = elsewhere says.0 is u
-  no_show is s o r u d show.Depositors says = elsewhere says is d
+  no_show is s o v r u d (show.Stock who is_csv) says = elsewhere says.0 is s
+  no_show is s o v r u d (show.Open who) says = elsewhere says.0 is o
+  no_show is s o v r u d (show.Advice who number is_csv) says = elsewhere says.0 is v
+  no_show is s o v r u d (show.Order who number is_csv) says = elsewhere says.0 is r
+  no_show is s o v r u d (show.Outbox who number) says = elsewhere says.0 is u
+  no_show is s o v r u d show.Depositors says = elsewhere says is d
 
 show_number : (f : Found) (a : Show) → SaysShow f a → f.0 ≡ codes "outbox" → ReadsNumber f.1
 show_number f (show.Stock who is_csv) s is = elsewhere s.0 is refl
 show_number f (show.Open who) s is = elsewhere s.0 is refl
-show_number f (show.Order who number) s is = elsewhere s.0 is refl
+show_number f (show.Advice who number is_csv) s is = elsewhere s.0 is refl
+show_number f (show.Order who number is_csv) s is = elsewhere s.0 is refl
 show_number f (show.Outbox who number) s is = (number, s.2)
 show_number f show.Depositors s is = elsewhere s is refl
 
@@ -154,6 +159,7 @@ lacking rows id value has lacks = absurd (let d : ◌≡◌ {A = Option Text} (S
 
 pub part_number : (f : Found) (t : Task) → SaysPart f t → Lacks f.1 (codes "into") → f.0 ≡ codes "outbox" → ReadsNumber f.1
 part_number f (task.Act a at) s lacks is = no_act f is refl refl refl refl refl refl refl a s
+part_number f (task.Try a at) s lacks is = no_act f is refl refl refl refl refl refl refl a s
 part_number f (task.Show a) s lacks is = show_number f a s is
 part_number f (task.HandOn who dir) s lacks is = lacking f.1 (codes "into") dir.now s.2 lacks
 part_number f (task.Init who) s lacks is = absurd s
@@ -165,7 +171,8 @@ part_number f (task.Seal first) s lacks is = absurd s
 show_into : {A : Type 0} (f : Found) (a : Show) (dir : Text) → SaysShow f a → f.0 ≡ codes "outbox" → Has f.1 (codes "into") dir → A
 show_into f (show.Stock who is_csv) dir s is has = elsewhere s.0 is refl
 show_into f (show.Open who) dir s is has = elsewhere s.0 is refl
-show_into f (show.Order who number) dir s is has = elsewhere s.0 is refl
+show_into f (show.Advice who number is_csv) dir s is has = elsewhere s.0 is refl
+show_into f (show.Order who number is_csv) dir s is has = elsewhere s.0 is refl
 show_into f (show.Outbox who number) dir s is has = lacking f.1 (codes "into") dir has s.3
 show_into f show.Depositors dir s is has = elsewhere s is refl
 
@@ -173,6 +180,7 @@ show_into f show.Depositors dir s is has = elsewhere s is refl
 pub part_into : (f : Found) (t : Task) (dir : Text) → SaysPart f t → f.0 ≡ codes "outbox" → Has f.1 (codes "into") dir
     → HasAll f × Lacks f.1 (codes "number")
 part_into f (task.Act a at) dir s is has = no_act f is refl refl refl refl refl refl refl a s
+part_into f (task.Try a at) dir s is has = no_act f is refl refl refl refl refl refl refl a s
 part_into f (task.Show a) dir s is has = show_into f a dir s is has
 part_into f (task.HandOn who other) dir s is has = (hand_on_has f who.now other.now s, s.3)
 part_into f (task.Init who) dir s is has = absurd s
@@ -184,7 +192,8 @@ part_into f (task.Seal first) dir s is has = absurd s
 pub task_service : (f : Found) (t : Task) → SaysTask f t → f.0 ≡ codes "serve" → (service : Service) × SaysService f.1 service
 task_service f (task.Init who) s is = elsewhere s.0 is refl
 task_service f (task.Act a at) s is = no_act f is refl refl refl refl refl refl refl a s.0
-task_service f (task.Show a) s is = no_show f is refl refl refl refl refl a s
+task_service f (task.Try a at) s is = no_act f is refl refl refl refl refl refl refl a s.0
+task_service f (task.Show a) s is = no_show f is refl refl refl refl refl refl a s
 task_service f (task.HandOn who dir) s is = elsewhere s.0 is refl
 task_service f (task.Batch file) s is = elsewhere s.0 is refl
 task_service f (task.Serve service at) s is = (service, s.1)
@@ -194,7 +203,8 @@ task_service f (task.Seal first) s is = elsewhere s.0 is refl
 pub no_script : (f : Found) (t : Task) → SaysTask f t → f.0 ≡ codes "script" → ⊥
 no_script f (task.Init who) s is = elsewhere s.0 is refl
 no_script f (task.Act a at) s is = no_act f is refl refl refl refl refl refl refl a s.0
-no_script f (task.Show a) s is = no_show f is refl refl refl refl refl a s
+no_script f (task.Try a at) s is = no_act f is refl refl refl refl refl refl refl a s.0
+no_script f (task.Show a) s is = no_show f is refl refl refl refl refl refl a s
 no_script f (task.HandOn who dir) s is = elsewhere s.0 is refl
 no_script f (task.Batch file) s is = elsewhere s.0 is refl
 no_script f (task.Serve service at) s is = elsewhere s.0 is refl
@@ -206,6 +216,7 @@ pub part_of : (f : Found) (t : Task) → SaysTask f t → (f.0 ≡ codes "init" 
     → (f.0 ≡ codes "seal" → ⊥) → (f.0 ≡ codes "batch" → ⊥) → SaysPart f t
 part_of f (task.Init who) s i e v l b = absurd (i s.0)
 part_of f (task.Act a at) s i e v l b = s.0
+part_of f (task.Try a at) s i e v l b = s.0
 part_of f (task.Show a) s i e v l b = s
 part_of f (task.HandOn who dir) s i e v l b = s
 part_of f (task.Batch file) s i e v l b = absurd (b s.0)

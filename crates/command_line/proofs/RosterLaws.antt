@@ -4,7 +4,7 @@ use Rattle.toml.specs.Data.{Data, Items, item, string, integer, float, boolean, 
 use Rattle.toml.specs.View.{items_view, view}
 use Rattle.toml.specs.declared.value.Value.{Value}
 use Rattle.toml.proofs.Views.{items_view-drop}
-use Rattle.profile.specs.Header.{Who}
+use Rattle.definitions.specs.Header.{Who}
 use Rattle.command_line.specs.Rosters.{partner_in, partners_in, led_by, listed}
 
 -- nothing is found in front

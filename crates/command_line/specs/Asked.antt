@@ -9,7 +9,7 @@ use Rattle.std.specs.declared.net.socket_addr.SocketAddr.{SocketAddr}
 use Rattle.clap.specs.Walk.{Row, Rule, Text, first_of}
 use Rattle.clap.specs.Simple.{subcommand_of}
 use Rattle.clap.specs.Takes.{takes}
-use Rattle.profile.specs.Moments.{Moment}
+use Rattle.definitions.specs.Moments.{Moment}
 use Rattle.command_line.specs.Written.{moment_of, number_of, count_of, wait_of}
 use Rattle.command_line.specs.declared.words.Place.{Place}
 use Rattle.command_line.specs.declared.words.Place.TheVariants as place
@@ -28,8 +28,8 @@ use Rattle.command_line.specs.declared.words.Show.TheVariants as show
 use Rattle.command_line.specs.declared.words.ClerkWords.{ClerkWords}
 use Rattle.command_line.specs.declared.words.LineFault.{LineFault}
 use Rattle.command_line.specs.declared.words.LineFault.TheVariants.{OutOfMemory}
-use Rattle.profile.specs.declared.sheet_kind.SheetKind.{SheetKind}
-use Rattle.profile.specs.declared.sheet_kind.SheetKind.TheVariants.{Count, Pick, Recount}
+use Rattle.definitions.specs.declared.sheet_kind.SheetKind.{SheetKind}
+use Rattle.definitions.specs.declared.sheet_kind.SheetKind.TheVariants.{Count, Pick, Recount}
 use Rattle.command_line.specs.Lines.{app_at, rules_of}
 
 -- the subcommand that a line names, and what was found for its values
@@ -99,8 +99,11 @@ abbrev pub SaysShow : Found → Show → Type 0
 SaysShow f (show.Stock who is_csv) = (f.0 ≡ codes "stock") × Has f.1 (codes "who") who.now
     × (is_csv ≡ has_flag f.1 (codes "csv"))
 SaysShow f (show.Open who) = (f.0 ≡ codes "open") × Has f.1 (codes "who") who.now
-SaysShow f (show.Order who number) = (f.0 ≡ codes "orders") × Has f.1 (codes "who") who.now
-    × Has f.1 (codes "number") number.now
+SaysShow f (show.Advice who number is_csv) = (f.0 ≡ codes "advices")
+    × Has f.1 (codes "who") who.now
+    × Has f.1 (codes "number") number.now × (is_csv ≡ has_flag f.1 (codes "csv"))
+SaysShow f (show.Order who number is_csv) = (f.0 ≡ codes "orders") × Has f.1 (codes "who") who.now
+    × Has f.1 (codes "number") number.now × (is_csv ≡ has_flag f.1 (codes "csv"))
 SaysShow f (show.Outbox who number) = (f.0 ≡ codes "outbox") × Has f.1 (codes "who") who.now
     × SaysNumber f.1 number × Lacks f.1 (codes "into")
 SaysShow f show.Depositors = f.0 ≡ codes "depositors"
@@ -150,6 +153,9 @@ SaysHandOn f who dir = (f.0 ≡ codes "outbox") × Has f.1 (codes "who") who
 abbrev pub SaysTask : Found → Task → Type 0
 SaysTask f (task.Init who) = (f.0 ≡ codes "init") × Has f.1 (codes "who") who.now
 SaysTask f (task.Act a at) = SaysAct f a × SaysMoment f.1 at
+    × (has_flag f.1 (codes "try") ≡ false)
+SaysTask f (task.Try a at) = SaysAct f a × SaysMoment f.1 at
+    × (has_flag f.1 (codes "try") ≡ true)
 SaysTask f (task.Show s) = SaysShow f s
 SaysTask f (task.HandOn who dir) = SaysHandOn f who.now dir.now
 SaysTask f (task.Batch file) = (f.0 ≡ codes "batch") × Has f.1 (codes "file") file.now
@@ -199,8 +205,8 @@ takes_server name = bytes_eq name (codes "send")
     || (bytes_eq name (codes "count") || (bytes_eq name (codes "pick")
     || (bytes_eq name (codes "recount")
     || (bytes_eq name (codes "stock") || (bytes_eq name (codes "open")
-    || (bytes_eq name (codes "orders")
-    || (bytes_eq name (codes "outbox") || bytes_eq name (codes "depositors"))))))))
+    || (bytes_eq name (codes "advices") || (bytes_eq name (codes "orders")
+    || (bytes_eq name (codes "outbox") || bytes_eq name (codes "depositors")))))))))
 
 -- the line, at this place, asks for this
 abbrev pub Says : Place → Found → Words → Type 0
@@ -251,9 +257,11 @@ HasAll f = HasWanted f.1 (rules_of f.0)
 abbrev pub Asks : Found → Type 0
 Asks f = (t : Task) × SaysTask f t
 
--- the line asks for what a running server may be asked for too: a change, or something shown
+-- the line asks for what a running server may be asked for too: a change, done or tried, or
+-- something shown
 abbrev pub SaysPart : Found → Task → Type 0
 SaysPart f (task.Act a at) = SaysAct f a
+SaysPart f (task.Try a at) = SaysAct f a
 SaysPart f (task.Show s) = SaysShow f s
 SaysPart f (task.HandOn who dir) = SaysHandOn f who.now dir.now
 SaysPart f _ = ⊥

@@ -44,6 +44,10 @@ ticket_rule = value_rule (codes "ticket")
 abbrev pub sheet_rule : Rule
 sheet_rule = value_rule (codes "sheet")
 
+-- the word by which a command is tried
+abbrev pub try_rule : Rule
+try_rule = flag_rule (codes "try")
+
 abbrev pub script_shape : Shape
 script_shape = subcommand (codes "script") (file_rule ∷ [])
 
@@ -54,13 +58,13 @@ abbrev pub init_shape : Shape
 init_shape = subcommand (codes "init") (who_rule ∷ at_rule ∷ [])
 
 abbrev pub enrol_shape : Shape
-enrol_shape = subcommand (codes "enrol") (who_rule ∷ at_rule ∷ [])
+enrol_shape = subcommand (codes "enrol") (who_rule ∷ try_rule ∷ at_rule ∷ [])
 
 abbrev pub roster_shape : Shape
 roster_shape = subcommand (codes "roster") (file_rule ∷ at_rule ∷ [])
 
 abbrev pub send_shape : Shape
-send_shape = subcommand (codes "send") (file_rule ∷ at_rule ∷ [])
+send_shape = subcommand (codes "send") (file_rule ∷ try_rule ∷ at_rule ∷ [])
 
 abbrev pub take_shape : Shape
 take_shape = subcommand (codes "take") (value_rule (codes "dir") ∷ option_rule (codes "done")
@@ -68,14 +72,15 @@ take_shape = subcommand (codes "take") (value_rule (codes "dir") ∷ option_rule
 
 abbrev pub count_shape : Shape
 count_shape = subcommand (codes "count") (who_rule ∷ ticket_rule ∷ number_rule ∷ sheet_rule
-    ∷ at_rule ∷ [])
+    ∷ try_rule ∷ at_rule ∷ [])
 
 abbrev pub pick_shape : Shape
-pick_shape = subcommand (codes "pick") (who_rule ∷ ticket_rule ∷ number_rule ∷ sheet_rule ∷ at_rule
-    ∷ [])
+pick_shape = subcommand (codes "pick") (who_rule ∷ ticket_rule ∷ number_rule ∷ sheet_rule
+    ∷ try_rule ∷ at_rule ∷ [])
 
 abbrev pub recount_shape : Shape
-recount_shape = subcommand (codes "recount") (who_rule ∷ ticket_rule ∷ sheet_rule ∷ at_rule ∷ [])
+recount_shape = subcommand (codes "recount") (who_rule ∷ ticket_rule ∷ sheet_rule ∷ try_rule
+    ∷ at_rule ∷ [])
 
 abbrev pub stock_shape : Shape
 stock_shape = subcommand (codes "stock") (who_rule ∷ flag_rule (codes "csv") ∷ at_rule ∷ [])
@@ -84,7 +89,12 @@ abbrev pub open_shape : Shape
 open_shape = subcommand (codes "open") (who_rule ∷ at_rule ∷ [])
 
 abbrev pub orders_shape : Shape
-orders_shape = subcommand (codes "orders") (who_rule ∷ number_rule ∷ at_rule ∷ [])
+orders_shape = subcommand (codes "orders") (who_rule ∷ number_rule ∷ flag_rule (codes "csv")
+    ∷ at_rule ∷ [])
+
+abbrev pub advices_shape : Shape
+advices_shape = subcommand (codes "advices") (who_rule ∷ number_rule ∷ flag_rule (codes "csv")
+    ∷ at_rule ∷ [])
 
 abbrev pub outbox_shape : Shape
 outbox_shape = subcommand (codes "outbox") (who_rule ∷ option_rule (codes "number")
@@ -149,7 +159,8 @@ act_subcommands p = over_at p enrol_shape ∷ over_at p roster_shape ∷ either_
     ∷ either_at p count_shape ∷ either_at p pick_shape ∷ either_at p recount_shape ∷ []
 
 abbrev pub show_subcommands : Place → List Shape
-show_subcommands p = either_at p stock_shape ∷ either_at p open_shape ∷ either_at p orders_shape
+show_subcommands p = either_at p stock_shape ∷ either_at p open_shape
+    ∷ either_at p advices_shape ∷ either_at p orders_shape
     ∷ either_at p outbox_shape
     ∷ either_at p depositors_shape ∷ []
 

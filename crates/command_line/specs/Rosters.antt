@@ -2,7 +2,7 @@
 use Rattle.std.specs.Prelude.{◌≡◌, ℕ, List, [], ◌∷◌, Option, Some, None, codes, option_and_then, IsUtf8}
 use Rattle.toml.specs.Data.{Data, Items, string, array, no_items, item, get_member}
 use Rattle.toml.specs.Parse.{parse_document}
-use Rattle.profile.specs.Header.{Who, who_of}
+use Rattle.definitions.specs.Header.{Who, who_of}
 
 -- the partner that a value names
 abbrev pub partner_in : Data → Option Who

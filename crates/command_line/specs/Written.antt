@@ -1,9 +1,9 @@
 -- Moments and numbers as the words of a line write them.
 use Rattle.std.specs.Prelude.{ℕ, ◌+◌, ◌*◌, Bool, ◌&&◌, nat_lt, List, length, take, drop, if◌then◌else◌, ◌==◌, Some, None, codes, bytes_eq, Option}
 use Rattle.std.specs.List.{list_all}
-use Rattle.profile.specs.Bytes.{is_between, is_digit, value}
-use Rattle.profile.specs.Limits.{most_entries}
-use Rattle.profile.specs.Moments.{Moment, is_moment}
+use Rattle.definitions.specs.Bytes.{is_between, is_digit, value}
+use Rattle.definitions.specs.Limits.{most_entries}
+use Rattle.definitions.specs.Moments.{Moment, is_moment}
 use Rattle.command_line.specs.declared.numbers.TheConstants.{MOST_CONNECTIONS}
 
 -- the two bytes at a place, and the one

@@ -61,6 +61,18 @@ fn depositor<'a>(alloc: Global) -> Arg<'a>
     )
 }
 
+/// The shipment number of an advice.
+pub(crate) fn shipment<'a>(alloc: Global) -> Arg<'a>
+    ensures { IsRule meant.number_rule result }
+{
+    value(
+        alloc,
+        "number",
+        "SHIPMENT",
+        "The shipment number of the advice",
+    )
+}
+
 /// The number of an order.
 pub(crate) fn order<'a>(alloc: Global) -> Arg<'a>
     ensures { IsRule meant.number_rule result }
@@ -164,17 +176,35 @@ pub(crate) fn with_at<'a>(
     with(command, at(alloc))
 }
 
-/// With the sheet of a clerk's act, and its moment.
+/// With the word by which a command is tried, and its moment.
+pub(crate) fn with_try<'a>(
+    alloc: Global,
+    command: Result<Command<'a>, AllocError>,
+) -> Result<Command<'a>, AllocError>
+    ensures { (s : Shape) → IfOk command.entry (IsCommand s)
+        → IfOk result (IsCommand (meant.and_rule (meant.and_rule s meant.try_rule)
+        meant.at_rule)) }
+{
+    let tried = flag(
+        alloc,
+        "try",
+        "Prints what would be answered now, and changes nothing",
+    );
+    let command = with(command, tried);
+    with_at(alloc, command)
+}
+
+/// With the sheet of a clerk's act, the word by which it is tried, and its moment.
 pub(crate) fn with_sheet<'a>(
     alloc: Global,
     command: Result<Command<'a>, AllocError>,
 ) -> Result<Command<'a>, AllocError>
     ensures { (s : Shape) → IfOk command.entry (IsCommand s)
-        → IfOk result (IsCommand (meant.and_rule (meant.and_rule s meant.sheet_rule)
-        meant.at_rule)) }
+        → IfOk result (IsCommand (meant.and_rule (meant.and_rule (meant.and_rule s
+        meant.sheet_rule) meant.try_rule) meant.at_rule)) }
 {
     let command = with(command, sheet(alloc));
-    with_at(alloc, command)
+    with_try(alloc, command)
 }
 
 /// A command of this name whose first argument is the depositor.

@@ -1,6 +1,6 @@
 //! Moments as the words of a line write them.
 ghost use Rattle.std.specs.Prelude.{◌≡◌, ◌≤◌, ◌+◌, length, true};
-ghost use Rattle.profile.specs.Bytes.{value};
+ghost use Rattle.definitions.specs.Bytes.{value};
 ghost use Rattle.command_line.specs.Written as written;
 
 use segments::{Moment, all_digits, number};

@@ -1,9 +1,9 @@
 //! Numbers as the words of a line write them.
 ghost use Rattle.std.specs.Prelude.{◌≡◌, ◌≤◌, IfSome};
-ghost use Rattle.profile.specs.Limits.{most_entries};
+ghost use Rattle.definitions.specs.Limits.{most_entries};
 ghost use Rattle.command_line.specs.Written as written;
 
-use profile::MOST_ENTRIES;
+use definitions::MOST_ENTRIES;
 use segments::{all_digits, value_up_to};
 
 // How far digits are read: no entry's number, no quantity and no count of connections reaches it.

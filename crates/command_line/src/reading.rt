@@ -13,7 +13,7 @@ use crate::values::{
 use crate::words::{BookAct, ClerkWords, Endpoint, LineFault, Place, Show, Task, Words};
 use clap::ArgMatches;
 use clap::error::ErrorKind;
-use profile::SheetKind;
+use definitions::SheetKind;
 use segments::Moment;
 use std::alloc::Global;
 
@@ -162,9 +162,15 @@ fn show_of<'a>(
         "open" => Show::Open {
             who: given(alloc, values, "who")?,
         },
+        "advices" => Show::Advice {
+            who: given(alloc, values, "who")?,
+            number: given(alloc, values, "number")?,
+            is_csv: has_flag(values, "csv"),
+        },
         "orders" => Show::Order {
             who: given(alloc, values, "who")?,
             number: given(alloc, values, "number")?,
+            is_csv: has_flag(values, "csv"),
         },
         "outbox" => outbox_of(alloc, values)?,
         "depositors" => Show::Depositors,
@@ -219,7 +225,11 @@ fn part_task_of<'a>(
         × meant.SaysPart (name.now, rows_of (found_of values.now)) t)) }
 {
     if let Some(act) = act_of(alloc, name, values)? {
-        return Ok(Task::Act { act, at });
+        return Ok(if has_flag(values, "try") {
+            Task::Try { act, at }
+        } else {
+            Task::Act { act, at }
+        });
     }
     if let Some(task) = hand_on_of(alloc, name, values)? {
         return Ok(task);
@@ -308,6 +318,7 @@ fn takes_server(name: &str) -> bool
             | "recount"
             | "stock"
             | "open"
+            | "advices"
             | "orders"
             | "outbox"
             | "depositors"

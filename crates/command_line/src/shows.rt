@@ -1,14 +1,14 @@
 //! The subcommands that show something of a book, and the help of each.
-ghost use Rattle.std.specs.Prelude.{◌≡◌, IfOk};
+ghost use Rattle.std.specs.Prelude.{◌≡◌, IfOk, codes};
 ghost use Rattle.clap.specs.Simple.{App, app_of};
 ghost use Rattle.command_line.specs.Lines as meant;
-ghost use Rattle.command_line.specs.Parsers.{IsCommand};
+ghost use Rattle.command_line.specs.Parsers.{IsCommand, IsRule};
 
 use crate::arguments::{
-    at, flag, join_either_at, of_depositor, option, order, subcommand, with, with_at,
+    at, flag, join_either_at, of_depositor, option, order, shipment, subcommand, with, with_at,
 };
 use crate::words::Place;
-use clap::Command;
+use clap::{Arg, Command};
 use std::alloc::{AllocError, Global};
 
 fn stock<'a>(alloc: Global) -> Result<Command<'a>, AllocError>
@@ -41,6 +41,28 @@ fn open<'a>(alloc: Global) -> Result<Command<'a>, AllocError>
     with_at(alloc, command)
 }
 
+// The option by which a sheet is printed as CSV.
+fn csv<'a>(alloc: Global) -> Arg<'a>
+    ensures { IsRule (meant.flag_rule (codes "csv")) result }
+{
+    flag(alloc, "csv", "Prints it as CSV, to fill in and hand back")
+}
+
+fn advices<'a>(alloc: Global) -> Result<Command<'a>, AllocError>
+    ensures { IfOk result (IsCommand meant.advices_shape) }
+{
+    let command = of_depositor(
+        alloc,
+        "advices",
+        "Prints the receiving sheet of an open advice",
+        "whx12 advices WHO SHIPMENT [--csv] (--book BOOK | --server ADDR)",
+        "Example: whx12 advices ZZ-ACME SHP1 --book harbor.book\nExample: whx12 advices ZZ-ACME SHP1 --csv --book harbor.book > count.csv\n\nA line for each item and lot that was announced, with room to write what came. As CSV it is the sheet that `count` takes.",
+    );
+    let command = with(command, shipment(alloc));
+    let command = with(command, csv(alloc));
+    with_at(alloc, command)
+}
+
 fn orders<'a>(alloc: Global) -> Result<Command<'a>, AllocError>
     ensures { IfOk result (IsCommand meant.orders_shape) }
 {
@@ -48,10 +70,11 @@ fn orders<'a>(alloc: Global) -> Result<Command<'a>, AllocError>
         alloc,
         "orders",
         "Prints the picking sheet of an open order",
-        "whx12 orders WHO ORDER (--book BOOK | --server ADDR)",
-        "Example: whx12 orders ZZ-ACME ORD1 --book harbor.book\nExample: whx12 orders ZZ-ACME ORD1 --server 127.0.0.1:8080",
+        "whx12 orders WHO ORDER [--csv] (--book BOOK | --server ADDR)",
+        "Example: whx12 orders ZZ-ACME ORD1 --book harbor.book\nExample: whx12 orders ZZ-ACME ORD1 --csv --book harbor.book > pick.csv\nExample: whx12 orders ZZ-ACME ORD1 --server 127.0.0.1:8080\n\nAs CSV it is the sheet that `pick` takes: what is reserved of each lot.",
     );
     let command = with(command, order(alloc));
+    let command = with(command, csv(alloc));
     with_at(alloc, command)
 }
 
@@ -110,6 +133,7 @@ pub(crate) fn with_shows<'a>(
 {
     let parser = join_either_at(alloc, place, parser, stock(alloc));
     let parser = join_either_at(alloc, place, parser, open(alloc));
+    let parser = join_either_at(alloc, place, parser, advices(alloc));
     let parser = join_either_at(alloc, place, parser, orders(alloc));
     let parser = join_either_at(alloc, place, parser, outbox(alloc));
     join_either_at(alloc, place, parser, depositors(alloc))

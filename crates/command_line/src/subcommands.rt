@@ -7,7 +7,7 @@ ghost use Rattle.command_line.specs.Parsers.{IsCommand};
 
 use crate::arguments::{
     at, described, flag, join, join_at, join_either_at, of_clerk, of_depositor, option, order,
-    subcommand, value, wanted, with, with_at, with_sheet,
+    shipment, subcommand, value, wanted, with, with_at, with_sheet, with_try,
 };
 use crate::shows::with_shows;
 use crate::words::Place;
@@ -22,7 +22,7 @@ fn script<'a>(alloc: Global) -> Result<Command<'a>, AllocError>
         "script",
         "Runs the commands of a file, line by line, over a new book in memory",
         "whx12 script FILE",
-        "Example: whx12 script morning.txt\n\nThe first line makes the book, as: init ZZ-WHSE1. Each other line is one of\n  enrol   roster   send   take   count   pick   recount   stock   open   orders   outbox   depositors\nwithout `whx12` and `--book`, and with single spaces between its words; empty lines are passed over. A line that is a name and --help stops the script and\nshows what that command wants. A refused command is told on standard error, and the script goes on; words that can't be\nread and faults stop it.",
+        "Example: whx12 script morning.txt\n\nThe first line makes the book, as: init ZZ-WHSE1. Each other line is one of\n  enrol   roster   send   take   count   pick   recount   stock   open   advices   orders   outbox   depositors\nwithout `whx12` and `--book`, and with single spaces between its words; empty lines are passed over. A line that is a name and --help stops the script and\nshows what that command wants. A refused command is told on standard error, and the script goes on; words that can't be\nread and faults stop it.",
         value(alloc, "file", "FILE", "The file with the commands"),
     )
 }
@@ -66,10 +66,10 @@ fn enrol<'a>(alloc: Global) -> Result<Command<'a>, AllocError>
         alloc,
         "enrol",
         "Enrols a depositor, whose interchanges are taken from then on",
-        "whx12 enrol WHO --book BOOK [--at MOMENT]",
+        "whx12 enrol WHO [--try] --book BOOK [--at MOMENT]",
         "Example: whx12 enrol ZZ-ACME --book harbor.book",
     );
-    with_at(alloc, command)
+    with_try(alloc, command)
 }
 
 fn roster<'a>(alloc: Global) -> Result<Command<'a>, AllocError>
@@ -93,11 +93,11 @@ fn send<'a>(alloc: Global) -> Result<Command<'a>, AllocError>
         alloc,
         "send",
         "Hands in an interchange as it came, and prints the answer to send back",
-        "whx12 send FILE (--book BOOK [--at MOMENT] | --server ADDR)",
+        "whx12 send FILE [--try] (--book BOOK [--at MOMENT] | --server ADDR)",
         "Example: whx12 send advice.x12 --book harbor.book\nExample: whx12 send advice.x12 --server 127.0.0.1:8080\n\nThe same bytes sent again get the same answer, and nothing is taken twice.",
         value(alloc, "file", "FILE", "The file with the interchange"),
     );
-    with_at(alloc, command)
+    with_try(alloc, command)
 }
 
 fn take<'a>(alloc: Global) -> Result<Command<'a>, AllocError>
@@ -130,18 +130,10 @@ fn count<'a>(alloc: Global) -> Result<Command<'a>, AllocError>
         alloc,
         "count",
         "Tells what came in for an advice, closes it, and prints its receipt (944)",
-        "whx12 count WHO TICKET SHIPMENT SHEET (--book BOOK [--at MOMENT] | --server ADDR)",
+        "whx12 count WHO TICKET SHIPMENT SHEET [--try] (--book BOOK [--at MOMENT] | --server ADDR)",
         "Example: whx12 count ZZ-ACME CNT-0412 SHP1 count.csv --book harbor.book\nExample: whx12 count ZZ-ACME CNT-0412 SHP1 count.csv --server 127.0.0.1:8080\n\nwhere count.csv is\n  BOLT,LOT-7,90\n  NUT,LOT-2,0\nWhat was announced and isn't in the sheet is missing: an empty sheet closes the advice with nothing on hand.",
     );
-    let command = with(
-        command,
-        value(
-            alloc,
-            "number",
-            "SHIPMENT",
-            "The shipment number of the advice",
-        ),
-    );
+    let command = with(command, shipment(alloc));
     with_sheet(alloc, command)
 }
 
@@ -152,7 +144,7 @@ fn pick<'a>(alloc: Global) -> Result<Command<'a>, AllocError>
         alloc,
         "pick",
         "Tells what was picked for an order, closes it, and prints its shipping advice (945)",
-        "whx12 pick WHO TICKET ORDER SHEET (--book BOOK [--at MOMENT] | --server ADDR)",
+        "whx12 pick WHO TICKET ORDER SHEET [--try] (--book BOOK [--at MOMENT] | --server ADDR)",
         "Example: whx12 pick ZZ-ACME PCK-0231 ORD1 pick.csv --book harbor.book\nExample: whx12 pick ZZ-ACME PCK-0231 ORD1 pick.csv --server 127.0.0.1:8080\n\nwhere pick.csv is\n  BOLT,LOT-7,60\nNo more of a lot can be picked than the order has reserved. An empty file says that nothing was picked.",
     );
     let command = with(command, order(alloc));
@@ -166,7 +158,7 @@ fn recount<'a>(alloc: Global) -> Result<Command<'a>, AllocError>
         alloc,
         "recount",
         "Sets what is on hand of each lot of the sheet, and prints the adjustment (947)",
-        "whx12 recount WHO TICKET SHEET (--book BOOK [--at MOMENT] | --server ADDR)",
+        "whx12 recount WHO TICKET SHEET [--try] (--book BOOK [--at MOMENT] | --server ADDR)",
         "Example: whx12 recount ZZ-ACME REC-0009 recount.csv --book harbor.book\nExample: whx12 recount ZZ-ACME REC-0009 recount.csv --server 127.0.0.1:8080\n\nwhere recount.csv is\n  BOLT,LOT-7,28\nAt least one line has to differ from what is on hand.",
     );
     with_sheet(alloc, command)

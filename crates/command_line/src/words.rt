@@ -1,7 +1,7 @@
 //! What a line of words asks for.
 ghost use Rattle.std.specs.Prelude.{◌≡◌};
 
-use profile::SheetKind;
+use definitions::SheetKind;
 use segments::Moment;
 use std::alloc::{AllocError, Global};
 use std::net::SocketAddr;
@@ -56,7 +56,7 @@ pub enum Words<'a> {
         /// Where it listens.
         server: Endpoint<'a>,
         /// What is done, at no moment that the line says: `send`, `count`, `pick`, `recount`,
-        /// `stock`, `open`, `orders`, `outbox` or `depositors`.
+        /// each done or tried, `stock`, `open`, `orders`, `outbox` or `depositors`.
         task: Task<'a>,
     },
 }
@@ -81,6 +81,13 @@ pub enum Task<'a> {
     /// Change the book.
     Act {
         /// What is done.
+        act: BookAct<'a>,
+        /// The moment, if the line says one.
+        at: Option<Moment>,
+    },
+    /// Tell what a change would be answered now, and leave the book as it is.
+    Try {
+        /// What would be done.
         act: BookAct<'a>,
         /// The moment, if the line says one.
         at: Option<Moment>,
@@ -198,12 +205,23 @@ pub enum Show<'a> {
         /// The depositor, as `QQ-ID`.
         who: &'a str,
     },
+    /// The receiving sheet of an advice.
+    Advice {
+        /// The depositor, as `QQ-ID`.
+        who: &'a str,
+        /// The advice's shipment number.
+        number: &'a str,
+        /// Whether it is shown as CSV, as a count takes it.
+        is_csv: bool,
+    },
     /// The picking sheet of an order.
     Order {
         /// The depositor, as `QQ-ID`.
         who: &'a str,
         /// The order's number.
         number: &'a str,
+        /// Whether it is shown as CSV, as a pick takes it.
+        is_csv: bool,
     },
     /// What went out.
     Outbox {

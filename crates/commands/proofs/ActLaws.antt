@@ -3,11 +3,11 @@ use Rattle.std.proofs.Common.{◌≡◌, ◌∙◌, sym, refl, ap, subst, ℕ, B
 use Rattle.std.specs.Prelude.{if◌then◌else◌, ◌||◌}
 use Rattle.std.specs.List.{list_any}
 use Rattle.std.proofs.lemmas.List.Folds.{list_any-append}
-use Rattle.profile.specs.declared.rules.Rules.TheVariants.{Two}
-use Rattle.profile.specs.Accepted.{after, reply_to}
-use Rattle.profile.specs.Moments.{Moment}
-use Rattle.profile.specs.Register.{Entry, Command}
-use Rattle.profile.specs.Reply as replies
+use Rattle.definitions.specs.Rules.{Today}
+use Rattle.definitions.specs.Accepted.{after, reply_to}
+use Rattle.definitions.specs.Moments.{Moment}
+use Rattle.definitions.specs.Register.{Entry, Command}
+use Rattle.definitions.specs.Reply as replies
 use Rattle.store.specs.Standing.{Standing, IsUsable, LeavesEither, OfKept, OfUsable}
 use Rattle.commands.specs.Enrolling as listed
 use Rattle.commands.specs.Printing.{AppendsFront}
@@ -24,7 +24,7 @@ leaves_second s L next u = record { stand = u.stand; each = λ M h. inr (u.only 
 
 -- of a command that was answered so: what couldn't be told
 pub untold : {T : Type 0} (old new : Standing) (c : Command) (t : Moment) (shown : replies.Reply → List ℕ) (before later : Option (List ℕ)) (reply : replies.Reply) (r : Result T CommandError) → new.shut ≡ false
-    → OfUsable old new (λ L. IsUsable new (after Two old.warehouse L (c, t))) → OfKept old new (λ L. reply ≡ reply_to Two old.warehouse L c t) → OnErr r (AppendsFront before later (shown reply))
+    → OfUsable old new (λ L. IsUsable new (after Today old.warehouse L (c, t))) → OfKept old new (λ L. reply ≡ reply_to Today old.warehouse L c t) → OnErr r (AppendsFront before later (shown reply))
     → IfErr r IsDeviceStop → IfErr r (IsStopped old new c t shown before later)
 untold old new c t shown before later reply (Ok x) opened done is front why = tt
 untold old new c t shown before later reply (Err e) opened done is front why = inr (record {

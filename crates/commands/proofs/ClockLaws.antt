@@ -8,9 +8,9 @@ use Rattle.std.proofs.lemmas.Bool.Decides.{nat_tests}
 use Rattle.jiff.proofs.SpanFacts.{signed_arith}
 use Rattle.jiff.specs.Types.{DateTime, Timestamp}
 use Rattle.jiff.specs.Words.{is_leap_year, days_in_month}
-use Rattle.profile.proofs.TextLaws.{between, both_parts, within}
-use Rattle.profile.specs.Bytes.{is_between}
-use Rattle.profile.specs.Moments.{Moment, is_leap, days_in, is_day, is_moment}
+use Rattle.definitions.proofs.TextLaws.{between, both_parts, within}
+use Rattle.definitions.specs.Bytes.{is_between}
+use Rattle.definitions.specs.Moments.{Moment, is_leap, days_in, is_day, is_moment}
 use Rattle.commands.specs.Clock.{IsCivil, IsMinuteOf, minute_in, minute_of}
 
 -- a year below 0 is none of 2000 to 2099

@@ -3,11 +3,11 @@ use Rattle.std.proofs.Common.{◌≡◌, ◌∙◌, sym, refl, ap, subst, ℕ, �
 use Rattle.std.proofs.KnownBytes.{Appends-trans}
 use Rattle.std.specs.Io.KnownBytes.{Appends}
 use Rattle.std.proofs.lemmas.List.{map-append, take_more}
-use Rattle.profile.specs.declared.rules.Rules.TheVariants.{Two}
-use Rattle.profile.specs.Accepted.{accepted_on, replies_on, after, reply_to}
-use Rattle.profile.specs.Header.{Who}
-use Rattle.profile.specs.Moments.{Moment}
-use Rattle.profile.specs.Register.{Entry, Enrol}
+use Rattle.definitions.specs.Rules.{Today}
+use Rattle.definitions.specs.Accepted.{accepted_on, replies_on, after, reply_to}
+use Rattle.definitions.specs.Header.{Who}
+use Rattle.definitions.specs.Moments.{Moment}
+use Rattle.definitions.specs.Register.{Entry, Enrol}
 use Rattle.store.proofs.Changes.{clean_before, refused_after}
 use Rattle.store.proofs.Replies.{accepted_on-more, replies_on-more}
 use Rattle.store.specs.Standing.{Standing, IsUsable, KeepsLegal, GoesOn, LeavesEither, IsFault, IsRunFault, OfKept, OfUsable}
@@ -38,27 +38,27 @@ none_enrolled a t before = record {
 }
 
 lines_more : (W : Who) (L : List Entry) (t : Moment) (xs : List Who) (who : Who)
-    → lines_of W L t (xs ++ who ∷ []) ≡ lines_of W L t xs ++ line_of who (reply_to Two W (accepted_on Two W L (enrolments t xs)) (Enrol who) t)
+    → lines_of W L t (xs ++ who ∷ []) ≡ lines_of W L t xs ++ line_of who (reply_to Today W (accepted_on Today W L (enrolments t xs)) (Enrol who) t)
 unfolding lines_of
 lines_more W L t [] who = append-nil _
 lines_more W L t (x ∷ xs) who =
-    ap (λ (ls : List ℕ). line_of x (reply_to Two W L (Enrol x) t) ++ ls) (lines_more W (after Two W L (Enrol x, t)) t xs who) ∙ sym (append_assoc (line_of x (reply_to Two W L (Enrol x) t)) _ _)
+    ap (λ (ls : List ℕ). line_of x (reply_to Today W L (Enrol x) t) ++ ls) (lines_more W (after Today W L (Enrol x, t)) t xs who) ∙ sym (append_assoc (line_of x (reply_to Today W L (Enrol x) t)) _ _)
 
 enrolments_more : (t : Moment) (xs : List Who) (who : Who) → enrolments t (xs ++ who ∷ []) ≡ enrolments t xs ++ (Enrol who, t) ∷ []
 enrolments_more t xs who = map-append (λ (w : Who). (Enrol w, t)) xs (who ∷ [])
 
 -- the register after one more, where another call names the house
 grown : (V W : Who) (L : List Entry) (xs : List Who) (who : Who) (t : Moment) → V ≡ W
-    → after Two V (accepted_on Two W L (enrolments t xs)) (Enrol who, t) ≡ accepted_on Two W L (enrolments t (xs ++ who ∷ []))
+    → after Today V (accepted_on Today W L (enrolments t xs)) (Enrol who, t) ≡ accepted_on Today W L (enrolments t (xs ++ who ∷ []))
 grown V W L xs who t house =
-    ap (λ U. after Two U (accepted_on Two W L (enrolments t xs)) (Enrol who, t)) house
-    ∙ sym (ap (accepted_on Two W L) (enrolments_more t xs who) ∙ accepted_on-more Two W L (enrolments t xs) (Enrol who, t))
+    ap (λ U. after Today U (accepted_on Today W L (enrolments t xs)) (Enrol who, t)) house
+    ∙ sym (ap (accepted_on Today W L) (enrolments_more t xs who) ∙ accepted_on-more Today W L (enrolments t xs) (Enrol who, t))
 
 enrolled_more : (a b c : Standing) (xs : List Who) (who : Who) (t : Moment) (out mid later : Option (List ℕ)) (status one : ExitStatus) → GoesOn a b → GoesOn b c → AreEnrolled a b xs t out mid status
-    → OfKept b c (λ L. one ≡ told.status_of (reply_to Two b.warehouse L (Enrol who) t))
-    → OfKept b c (λ L. Appends mid later (line_of who (reply_to Two b.warehouse L (Enrol who) t)))
-    → OfUsable b c (λ L. IsUsable c (after Two b.warehouse L (Enrol who, t)))
-    → OfKept b c (λ L. KeepsLegal c (after Two b.warehouse L (Enrol who, t)))
+    → OfKept b c (λ L. one ≡ told.status_of (reply_to Today b.warehouse L (Enrol who) t))
+    → OfKept b c (λ L. Appends mid later (line_of who (reply_to Today b.warehouse L (Enrol who) t)))
+    → OfUsable b c (λ L. IsUsable c (after Today b.warehouse L (Enrol who, t)))
+    → OfKept b c (λ L. KeepsLegal c (after Today b.warehouse L (Enrol who, t)))
     → AreEnrolled a c (xs ++ who ∷ []) t out later (and_then status one)
 enrolled_more a b c xs who t out mid later status one p q before said prints goes stays = record {
   usable = λ clean L u.
@@ -72,15 +72,15 @@ enrolled_more a b c xs who t out mid later status one p q before said prints goe
       let mid = before.usable early L u in
       let W = a.warehouse in
       ap (λ s. and_then s one) (before.says early L u)
-      ∙ ap (and_then (status_of_replies (replies_on Two W L (enrolments t xs)))) (said clean _ mid.keeps mid.legal)
-      ∙ reply_more (replies_on Two W L (enrolments t xs)) (reply_to Two b.warehouse (accepted_on Two W L (enrolments t xs)) (Enrol who) t)
-      ∙ ap (λ U. status_of_replies (replies_on Two W L (enrolments t xs) ++ reply_to Two U (accepted_on Two W L (enrolments t xs)) (Enrol who) t ∷ [])) p.warehouse
-      ∙ sym (ap status_of_replies (ap (replies_on Two W L) (enrolments_more t xs who) ∙ replies_on-more Two W L (enrolments t xs) (Enrol who, t)));
+      ∙ ap (and_then (status_of_replies (replies_on Today W L (enrolments t xs)))) (said clean _ mid.keeps mid.legal)
+      ∙ reply_more (replies_on Today W L (enrolments t xs)) (reply_to Today b.warehouse (accepted_on Today W L (enrolments t xs)) (Enrol who) t)
+      ∙ ap (λ U. status_of_replies (replies_on Today W L (enrolments t xs) ++ reply_to Today U (accepted_on Today W L (enrolments t xs)) (Enrol who) t ∷ [])) p.warehouse
+      ∙ sym (ap status_of_replies (ap (replies_on Today W L) (enrolments_more t xs who) ∙ replies_on-more Today W L (enrolments t xs) (Enrol who, t)));
   printed = λ clean L u.
       let early = clean_before b c q clean in
       let now = before.usable early L u in
       let W = a.warehouse in
-      let line = subst (λ (U : Who). Appends mid later (line_of who (reply_to Two U (accepted_on Two W L (enrolments t xs)) (Enrol who) t))) p.warehouse
+      let line = subst (λ (U : Who). Appends mid later (line_of who (reply_to Today U (accepted_on Today W L (enrolments t xs)) (Enrol who) t))) p.warehouse
       (prints clean _ now.keeps now.legal) in
       subst (Appends out later) (sym (lines_more W L t xs who)) (Appends-trans out mid later _ _ (before.printed early L u) line);
 }
@@ -91,10 +91,10 @@ one_more whos i who lt is = take_more whos i who lt ∙ ap (λ w. take i whos ++
 -- the list of the first ones, with the next
 pub enrolled_next : (a b c : Standing) (whos : List Who) (i : ℕ) (who : Who) (t : Moment) (out mid later : Option (List ℕ)) (status one last : ExitStatus) → last ≡ and_then status one
     → i < length whos → who ≡ get_or whos i who → GoesOn a b → GoesOn b c → AreEnrolled a b (take i whos) t out mid status
-    → OfKept b c (λ L. one ≡ told.status_of (reply_to Two b.warehouse L (Enrol who) t))
-    → OfKept b c (λ L. Appends mid later (line_of who (reply_to Two b.warehouse L (Enrol who) t)))
-    → OfUsable b c (λ L. IsUsable c (after Two b.warehouse L (Enrol who, t)))
-    → OfKept b c (λ L. KeepsLegal c (after Two b.warehouse L (Enrol who, t)))
+    → OfKept b c (λ L. one ≡ told.status_of (reply_to Today b.warehouse L (Enrol who) t))
+    → OfKept b c (λ L. Appends mid later (line_of who (reply_to Today b.warehouse L (Enrol who) t)))
+    → OfUsable b c (λ L. IsUsable c (after Today b.warehouse L (Enrol who, t)))
+    → OfKept b c (λ L. KeepsLegal c (after Today b.warehouse L (Enrol who, t)))
     → AreEnrolled a c (take (i + 1) whos) t out later last
 enrolled_next a b c whos i who t out mid later status one last ends lt is p q before said prints goes stays =
     subst (λ (s : ExitStatus). AreEnrolled a c (take (i + 1) whos) t out later s) (sym ends)
@@ -138,7 +138,7 @@ unlisted a b c xs who t out mid later status stop p q before h = record {
       let early = clean_before b c q clean in
       let now = before.usable early L u in
       let W = a.warehouse in
-      let line = subst (λ (U : Who). AppendsFront mid later (line_of who (reply_to Two U (accepted_on Two W L (enrolments t xs)) (Enrol who) t))) p.warehouse
+      let line = subst (λ (U : Who). AppendsFront mid later (line_of who (reply_to Today U (accepted_on Today W L (enrolments t xs)) (Enrol who) t))) p.warehouse
       (h.printed clean _ now.keeps now.legal) in
       subst (AppendsFront out later) (sym (lines_more W L t xs who)) (front_second out mid later _ _ (before.printed early L u) line);
   why = h.why;
@@ -155,7 +155,7 @@ list_stopped a b c whos i who t out mid later status stop p q same next before (
 -- the list stops at one, after those that were handed in
 pub stopped_at : (a b c : Standing) (whos : List Who) (i : ℕ) (who : Who) (t : Moment) (out mid later : Option (List ℕ)) (status : ExitStatus) (stop : CommandError) → GoesOn a b → GoesOn b c
     → a.shut ≡ b.shut → i < length whos → who ≡ get_or whos i who → AreEnrolled a b (take i whos) t out mid status
-    → OfUsable b c (λ L. LeavesEither c L (after Two b.warehouse L (Enrol who, t)))
+    → OfUsable b c (λ L. LeavesEither c L (after Today b.warehouse L (Enrol who, t)))
     → IsStopped b c (Enrol who) t (line_of who) mid later stop → AreEnrolledUntil a c whos t out later stop
 stopped_at a b c whos i who t out mid later status stop p q same lt is before left why =
     let next = one_more whos i who lt is in
@@ -164,8 +164,8 @@ stopped_at a b c whos i who t out mid later status stop p q same lt is before le
       within = lt;
       left = λ clean L u.
           let mid = before.usable (clean_before b c q clean) L u in
-          subst (LeavesEither c (accepted_on Two a.warehouse L (enrolments t (take i whos))))
-          (grown b.warehouse a.warehouse L (take i whos) who t p.warehouse ∙ sym (ap (λ ws. accepted_on Two a.warehouse L (enrolments t ws)) next))
+          subst (LeavesEither c (accepted_on Today a.warehouse L (enrolments t (take i whos))))
+          (grown b.warehouse a.warehouse L (take i whos) who t p.warehouse ∙ sym (ap (λ ws. accepted_on Today a.warehouse L (enrolments t ws)) next))
           (left clean _ mid);
       stopped = list_stopped a b c whos i who t out mid later status stop p q same next before why;
     }

@@ -2,9 +2,9 @@
 use mathlib.Core.Bool.{true≢false}
 use Rattle.std.proofs.Common.{◌≡◌, ◌≢◌, refl, sym, ap, subst, ◌∙◌, Bool, false, List, ℕ, Option}
 use Rattle.std.specs.Prelude.{bytes_eq, codes, unwrap_or}
-use Rattle.profile.specs.Readings.{parts_at}
-use Rattle.profile.specs.declared.sheet_kind.SheetKind.{SheetKind}
-use Rattle.profile.specs.declared.sheet_kind.SheetKind.TheVariants.{Count, Pick, Recount}
+use Rattle.definitions.specs.Readings.{parts_at}
+use Rattle.definitions.specs.declared.sheet_kind.SheetKind.{SheetKind}
+use Rattle.definitions.specs.declared.sheet_kind.SheetKind.TheVariants.{Count, Pick, Recount}
 use Rattle.command_line.specs.Asked.{Found, IsLineRead, Says, SaysAct, SaysShow, act_name, takes_server}
 use Rattle.command_line.specs.declared.words.BookAct.{BookAct}
 use Rattle.command_line.specs.declared.words.BookAct.TheVariants as act
@@ -35,13 +35,15 @@ act_not f (act.Clerk told) s = ap is_init s.0 ∙ kind_not told.kind
 show_not : (f : Found) (a : Show) → SaysShow f a → is_init f.0 ≡ false
 show_not f (show.Stock who is_csv) s = ap is_init s.0
 show_not f (show.Open who) s = ap is_init s.0
-show_not f (show.Order who number) s = ap is_init s.0
+show_not f (show.Advice who number is_csv) s = ap is_init s.0
+show_not f (show.Order who number is_csv) s = ap is_init s.0
 show_not f (show.Outbox who number) s = ap is_init s.0
 show_not f show.Depositors s = ap is_init s
 
 named_so : (f : Found) (asked : Words) (name : List ℕ) → IsInit asked name → Says Script f asked → f.0 ≡ codes "init"
 named_so f (words.Over book opening (task.Init who)) name i s = s.5.0
 named_so f (words.Over book opening (task.Act a at)) name i s = absurd i
+named_so f (words.Over book opening (task.Try a at)) name i s = absurd i
 named_so f (words.Over book opening (task.Show a)) name i s = absurd i
 named_so f (words.Over book opening (task.Batch file)) name i s = absurd i
 named_so f (words.Over book opening (task.Serve a at)) name i s = absurd i
@@ -57,6 +59,7 @@ clash f is not = true≢false (sym (ap is_init is) ∙ not)
 alone : (f : Found) (other : Words) → Says Script f other → f.0 ≡ codes "init" → ((name : List ℕ) → IsInit other name → ⊥) → ⊥
 alone f (words.Over book opening (task.Init who)) s is none = none who.now refl
 alone f (words.Over book opening (task.Act a at)) s is none = clash f is (act_not f a s.5.0)
+alone f (words.Over book opening (task.Try a at)) s is none = clash f is (act_not f a s.5.0)
 alone f (words.Over book opening (task.Show a)) s is none = clash f is (show_not f a s.5)
 alone f (words.Over book opening (task.Batch file)) s is none = clash f is (ap is_init s.5.0)
 alone f (words.Over book opening (task.Serve a at)) s is none = clash f is (ap is_init s.5.0)
@@ -81,6 +84,7 @@ no_over (words.Remote server t) not name i = i
 pub no_init : (book : _) (opening : _) (t : Task) → ((who : _) → t ≢ task.Init who) → (name : List ℕ) → IsInit (words.Over book opening t) name → ⊥
 no_init book opening (task.Init who) not name i = not who refl
 no_init book opening (task.Act a at) not name i = i
+no_init book opening (task.Try a at) not name i = i
 no_init book opening (task.Show a) not name i = i
 no_init book opening (task.Batch file) not name i = i
 no_init book opening (task.Serve a at) not name i = i

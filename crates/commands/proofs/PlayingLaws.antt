@@ -8,9 +8,10 @@ use Rattle.std.proofs.lemmas.Fn.{FoldsTo-push}
 use Rattle.std.proofs.lemmas.List.Elements.{All-from_get_or}
 use Rattle.std.proofs.lemmas.List.Splits.{slice_split_first, slice_split_none}
 use Rattle.std.proofs.lemmas.Str.Pattern.{IsSplitOnceResult, split_once_first, split_parts}
-use Rattle.profile.specs.Readings.{parts_at}
+use Rattle.definitions.specs.Readings.{parts_at}
 use Rattle.std.proofs.Common.{append_assoc}
 use Rattle.store.specs.Standing.{Standing}
+use Rattle.commands.specs.Files.{Reads}
 use Rattle.commands.specs.Playing.{asks, rows_left, IsRowDone, IsRowStopped, HasStopped}
 use Rattle.commands.specs.declared.told.CommandError.{CommandError}
 use Rattle.commands.specs.declared.told.ExitStatus.{ExitStatus}
@@ -66,10 +67,10 @@ one_more R p q u text left next row first asked done s = record {
   played = FoldsTo-push R p s.front q row u s.played done;
 }
 
-pub stopped_at : {K W : Type 0} (standing : K → Standing) (contents : W → Option (List ℕ)) (p q : K × (W × ExitStatus)) (text left next : Option (Bor (List ℕ))) (row : List ℕ) (new : K) (after : W) (stop : CommandError)
-    → rows_left left ≡ row ∷ rows_left next → asks row ≡ true → IsRowStopped standing contents q.0 q.1.0 row new after stop → SoFar (IsRowDone standing contents) p text left q
-    → HasStopped standing contents p (filter asks (rows_left text)) new after stop
-stopped_at standing contents p q text left next row new after stop first asked stopped s = record {
+pub stopped_at : {K W : Type 0} (reads : Reads) (standing : K → Standing) (contents : W → Option (List ℕ)) (p q : K × (W × ExitStatus)) (text left next : Option (Bor (List ℕ))) (row : List ℕ) (new : K) (after : W) (stop : CommandError)
+    → rows_left left ≡ row ∷ rows_left next → asks row ≡ true → IsRowStopped reads standing contents q.0 q.1.0 row new after stop → SoFar (IsRowDone reads standing contents) p text left q
+    → HasStopped reads standing contents p (filter asks (rows_left text)) new after stop
+stopped_at reads standing contents p q text left next row new after stop first asked stopped s = record {
   front = s.front;
   row = row;
   others = filter asks (rows_left next);

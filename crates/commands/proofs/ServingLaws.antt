@@ -1,7 +1,7 @@
 -- The moments of connections.
 use Rattle.std.proofs.Common.{◌≡◌, ℕ, Bool, false, List, [], ◌∷◌, Option, Result, Ok, Err, OnErr, All, zero, suc, arith, map, subst, ap, inl, inr, ◌≤◌, refl}
 use Rattle.std.specs.List.{FoldsTo}
-use Rattle.profile.specs.Moments.{Moment}
+use Rattle.definitions.specs.Moments.{Moment}
 use Rattle.intake.specs.declared.served.Connection.{Connection}
 use Rattle.store.specs.Standing.{Standing}
 use Rattle.intake.specs.declared.audience.Access.{Access}

@@ -1,13 +1,12 @@
 -- What is shown of stock, of what is open, and of an order.
 use Rattle.std.proofs.Common.{◌≡◌, ◌∙◌, ℕ, Bool, List, [], Option, Some, None, option_map, Ok, Err, IfErr, OnErr, OnOk, Result, refl, sym, ap, subst, inr}
 use Rattle.std.specs.Io.KnownBytes.{Appends}
-use Rattle.profile.specs.History.{History}
-use Rattle.profile.specs.Need.{Need, need_of_number}
-use Rattle.profile.specs.declared.refusals.Refusal.{Refusal}
-use Rattle.profile.specs.declared.refusals.Refusal.TheVariants.{UnknownDepositor}
-use Rattle.profile.specs.Register.{Entry}
-use Rattle.profile.specs.Reports.{pick_list}
-use Rattle.profile.specs.Rows.{StockRow}
+use Rattle.definitions.specs.History.{History}
+use Rattle.definitions.specs.Need.{Need}
+use Rattle.definitions.specs.declared.refusals.Refusal.{Refusal}
+use Rattle.definitions.specs.declared.refusals.Refusal.TheVariants.{UnknownDepositor}
+use Rattle.definitions.specs.Register.{Entry}
+use Rattle.definitions.specs.Rows.{StockRow}
 use Rattle.store.specs.Decided.{IsHeldPart}
 use Rattle.reports.specs.Exports.{stock_text}
 use Rattle.reports.specs.Open.{open_report}
@@ -16,12 +15,12 @@ use Rattle.store.specs.Held.{IsHeld}
 use Rattle.store.specs.Open.{OpenWork, open_on}
 use Rattle.store.specs.Standing.{Standing, OfKept}
 use Rattle.commands.specs.Stops.{IsDeviceStop}
-use Rattle.commands.specs.Shown.{Shown, IsShown, IsShowStopped, shown_stock, shown_open, shown_order, shown_sheet}
+use Rattle.commands.specs.Shown.{Shown, IsShown, IsShowStopped, picking_text, receiving_text, shown_by, shown_stock, shown_open, shown_sheet}
 use Rattle.commands.specs.declared.told.CommandError.{CommandError}
 use Rattle.commands.specs.declared.told.ExitStatus.{ExitStatus}
 use Rattle.commands.specs.declared.told.ExitStatus.TheVariants.{Done, Refused}
 use Rattle.commands.specs.Printing.{AppendsFront}
-use Rattle.commands.specs.Refused.{line_if, refused_order, refused_sheet, refused_stranger}
+use Rattle.commands.specs.Refused.{line_if, refused_by, refused_sheet, refused_stranger}
 use Rattle.commands.specs.Telling.{refused_line}
 use Rattle.commands.proofs.PrintingLaws.{front_all, on_err}
 use Rattle.commands.proofs.TellingLaws.{appends_nothing}
@@ -67,60 +66,69 @@ pub unshown_none : {T : Type 0} (old new : Standing) (shown : List Entry → Sho
     → OfKept old new (λ L. what ≡ shown L) → what.0 ≡ [] → IfErr r IsDeviceStop → IfErr r (IsShowStopped old new shown before before)
 unshown_none old new shown what before r read is why = unshown_text old new shown what [] before before r read (sym is) (front_all before before [] (appends_nothing before)) why
 
--- the sheet of the order that a page holds
-order_of : (number : List ℕ) (o : Option History) (p : _) (text : List ℕ) (before later : Option (List ℕ)) → IsHeld (need_of_number number) (Some p) o
-    → ((h : History) → IsHeldPart (need_of_number number) p h → pick_list h.events number ≡ Ok text) → Appends before later text
-    → IsShown (shown_order number o) before later Done
-order_of number None p text before later held listed told = absurd held
-order_of number (Some h) p text before later held listed told = rw (listed h held) (record { printed = told; says = refl })
+-- the sheets that are shown
+abbrev pub picking : Bool → List ℕ → History → Result (List ℕ) Refusal
+picking is_csv number h = picking_text is_csv h.events number
 
-pub order_shown : (number first second : List ℕ) (need : Need) (o : Option History) (q : _) (p : _) (text written : List ℕ) (before later : Option (List ℕ))
-    → first ≡ number → second ≡ number → need ≡ need_of_number first → q ≡ Some p → IsHeld need q o
-    → ((h : History) → IsHeldPart (need_of_number second) p h → pick_list h.events second ≡ Ok text) → written ≡ text → Appends before later written
-    → IsShown (shown_order number o) before later Done
-order_shown number first second need o q p text written before later f s n is held listed w told =
-    let known = subst (λ k. IsHeld k (Some p) o) (n ∙ ap need_of_number f) (subst (λ k. IsHeld need k o) is held) in
-    order_of number o p text before later known
-    (subst (λ k. (h : History) → IsHeldPart (need_of_number k) p h → pick_list h.events k ≡ Ok text) s listed)
-    (subst (Appends before later) w told)
+abbrev pub receiving : Bool → List ℕ → History → Result (List ℕ) Refusal
+receiving is_csv number h = receiving_text is_csv h.events number
 
--- why there is none, which prints nothing
-no_order : (number : List ℕ) (o : Option History) (p : _) (why : Refusal) (before : Option (List ℕ)) (status : ExitStatus) → IsHeld (need_of_number number) (Some p) o
-    → ((h : History) → IsHeldPart (need_of_number number) p h → pick_list h.events number ≡ Err why) → status ≡ Refused
-    → IsShown (shown_order number o) before before status
-no_order number None p why before status held listed is = absurd held
-no_order number (Some h) p why before status held listed is = rw (listed h held) (record { printed = appends_nothing before; says = is })
+-- A sheet of a number, that needs so much of a page.
+module _ (needs : List ℕ → Need) (sheet : List ℕ → History → Result (List ℕ) Refusal) where
+  -- the sheet of what a page holds
+  sheet_given : (number : List ℕ) (o : Option History) (p : _) (text : List ℕ) (before later : Option (List ℕ)) → IsHeld (needs number) (Some p) o
+      → ((h : History) → IsHeldPart (needs number) p h → sheet number h ≡ Ok text) → Appends before later text
+      → IsShown (shown_by (sheet number) o) before later Done
+  sheet_given number None p text before later held listed told = absurd held
+  sheet_given number (Some h) p text before later held listed told = rw (listed h held) (record { printed = told; says = refl })
 
-pub no_order_shown : (number first second : List ℕ) (need : Need) (o : Option History) (q : _) (p : _) (why : Refusal) (before : Option (List ℕ)) (status : ExitStatus)
-    → first ≡ number → second ≡ number → need ≡ need_of_number first → q ≡ Some p → IsHeld need q o
-    → ((h : History) → IsHeldPart (need_of_number second) p h → pick_list h.events second ≡ Err why) → status ≡ Refused
-    → IsShown (shown_order number o) before before status
-no_order_shown number first second need o q p why before status f s n is held listed r =
-    let known = subst (λ k. IsHeld k (Some p) o) (n ∙ ap need_of_number f) (subst (λ k. IsHeld need k o) is held) in
-    no_order number o p why before status known
-    (subst (λ k. (h : History) → IsHeldPart (need_of_number k) p h → pick_list h.events k ≡ Err why) s listed) r
+  pub sheet_shown : (number first second : List ℕ) (need : Need) (o : Option History) (q : _) (p : _) (text written : List ℕ) (before later : Option (List ℕ))
+      → first ≡ number → second ≡ number → need ≡ needs first → q ≡ Some p → IsHeld need q o
+      → ((h : History) → IsHeldPart (needs second) p h → sheet second h ≡ Ok text) → written ≡ text → Appends before later written
+      → IsShown (shown_by (sheet number) o) before later Done
+  sheet_shown number first second need o q p text written before later f s n is held listed w told =
+      let known = subst (λ k. IsHeld k (Some p) o) (n ∙ ap needs f) (subst (λ k. IsHeld need k o) is held) in
+      sheet_given number o p text before later known
+      (subst (λ k. (h : History) → IsHeldPart (needs k) p h → sheet k h ≡ Ok text) s listed)
+      (subst (Appends before later) w told)
 
--- the same of what is shown, whether it was told or not
+  -- why there is none, which prints nothing
+  no_sheet : (number : List ℕ) (o : Option History) (p : _) (why : Refusal) (before : Option (List ℕ)) (status : ExitStatus) → IsHeld (needs number) (Some p) o
+      → ((h : History) → IsHeldPart (needs number) p h → sheet number h ≡ Err why) → status ≡ Refused
+      → IsShown (shown_by (sheet number) o) before before status
+  no_sheet number None p why before status held listed is = absurd held
+  no_sheet number (Some h) p why before status held listed is = rw (listed h held) (record { printed = appends_nothing before; says = is })
 
-sheet_of : (number : List ℕ) (o : Option History) (p : _) (made : Result (List ℕ) Refusal) → IsHeld (need_of_number number) (Some p) o
-    → ((h : History) → IsHeldPart (need_of_number number) p h → pick_list h.events number ≡ made) → shown_sheet made ≡ shown_order number o
-sheet_of number None p made held listed = absurd held
-sheet_of number (Some h) p made held listed = ap shown_sheet (sym (listed h held))
+  pub no_sheet_shown : (number first second : List ℕ) (need : Need) (o : Option History) (q : _) (p : _) (why : Refusal) (before : Option (List ℕ)) (status : ExitStatus)
+      → first ≡ number → second ≡ number → need ≡ needs first → q ≡ Some p → IsHeld need q o
+      → ((h : History) → IsHeldPart (needs second) p h → sheet second h ≡ Err why) → status ≡ Refused
+      → IsShown (shown_by (sheet number) o) before before status
+  no_sheet_shown number first second need o q p why before status f s n is held listed r =
+      let known = subst (λ k. IsHeld k (Some p) o) (n ∙ ap needs f) (subst (λ k. IsHeld need k o) is held) in
+      no_sheet number o p why before status known
+      (subst (λ k. (h : History) → IsHeldPart (needs k) p h → sheet k h ≡ Err why) s listed) r
 
-pub order_read : (number first second : List ℕ) (need : Need) (o : Option History) (q : _) (p : _) (made : Result (List ℕ) Refusal)
-    → first ≡ number → second ≡ number → need ≡ need_of_number first → q ≡ Some p → IsHeld need q o
-    → ((h : History) → IsHeldPart (need_of_number second) p h → pick_list h.events second ≡ made) → shown_sheet made ≡ shown_order number o
-order_read number first second need o q p made f s n is held listed =
-    let known = subst (λ k. IsHeld k (Some p) o) (n ∙ ap need_of_number f) (subst (λ k. IsHeld need k o) is held) in
-    sheet_of number o p made known (subst (λ k. (h : History) → IsHeldPart (need_of_number k) p h → pick_list h.events k ≡ made) s listed)
+  -- the same of what is shown, whether it was told or not
 
--- a stranger's
-pub stranger_read : (number : List ℕ) (need : Need) (o : Option History) (q : _) → q ≡ None → IsHeld need q o → shown_order number None ≡ shown_order number o
-stranger_read number need o q is held = of_none number need o (subst (λ k. IsHeld need k o) is held)
-  where
-    of_none : (number : List ℕ) (need : Need) (o : Option History) → IsHeld need None o → shown_order number None ≡ shown_order number o
-    of_none number need None held = refl
-    of_none number need (Some h) held = absurd held
+  sheet_made : (number : List ℕ) (o : Option History) (p : _) (made : Result (List ℕ) Refusal) → IsHeld (needs number) (Some p) o
+      → ((h : History) → IsHeldPart (needs number) p h → sheet number h ≡ made) → shown_sheet made ≡ shown_by (sheet number) o
+  sheet_made number None p made held listed = absurd held
+  sheet_made number (Some h) p made held listed = ap shown_sheet (sym (listed h held))
+
+  pub sheet_read : (number first second : List ℕ) (need : Need) (o : Option History) (q : _) (p : _) (made : Result (List ℕ) Refusal)
+      → first ≡ number → second ≡ number → need ≡ needs first → q ≡ Some p → IsHeld need q o
+      → ((h : History) → IsHeldPart (needs second) p h → sheet second h ≡ made) → shown_sheet made ≡ shown_by (sheet number) o
+  sheet_read number first second need o q p made f s n is held listed =
+      let known = subst (λ k. IsHeld k (Some p) o) (n ∙ ap needs f) (subst (λ k. IsHeld need k o) is held) in
+      sheet_made number o p made known (subst (λ k. (h : History) → IsHeldPart (needs k) p h → sheet k h ≡ made) s listed)
+
+  -- a stranger's
+  pub stranger_read : (number : List ℕ) (need : Need) (o : Option History) (q : _) → q ≡ None → IsHeld need q o → shown_by (sheet number) None ≡ shown_by (sheet number) o
+  stranger_read number need o q is held = of_none number need o (subst (λ k. IsHeld need k o) is held)
+    where
+      of_none : (number : List ℕ) (need : Need) (o : Option History) → IsHeld need None o → shown_by (sheet number) None ≡ shown_by (sheet number) o
+      of_none number need None held = refl
+      of_none number need (Some h) held = absurd held
 
 -- What is told on standard error of what isn't shown.
 
@@ -134,25 +142,27 @@ pub nothing_said : {T A : Type 0} (f : T → A) (o : Option T) (v : T) (found : 
 nothing_said {T} {A} f o v found before is e =
     subst (λ (k : Option A). Appends before before (line_if (refused_stranger k))) (given_some f o v found is e) (appends_nothing before)
 
--- of an order that a page holds
-why_of : (number : List ℕ) (o : Option History) (p : _) (made : Result (List ℕ) Refusal) → IsHeld (need_of_number number) (Some p) o
-    → ((h : History) → IsHeldPart (need_of_number number) p h → pick_list h.events number ≡ made) → refused_sheet made ≡ refused_order number o
-why_of number None p made held listed = absurd held
-why_of number (Some h) p made held listed = ap refused_sheet (sym (listed h held))
+-- why there is none
+module _ (needs : List ℕ → Need) (sheet : List ℕ → History → Result (List ℕ) Refusal) where
+  -- of what a page holds
+  why_of : (number : List ℕ) (o : Option History) (p : _) (made : Result (List ℕ) Refusal) → IsHeld (needs number) (Some p) o
+      → ((h : History) → IsHeldPart (needs number) p h → sheet number h ≡ made) → refused_sheet made ≡ refused_by (sheet number) o
+  why_of number None p made held listed = absurd held
+  why_of number (Some h) p made held listed = ap refused_sheet (sym (listed h held))
 
-pub order_why : (number first second : List ℕ) (need : Need) (o : Option History) (q : _) (p : _) (made : Result (List ℕ) Refusal)
-    → first ≡ number → second ≡ number → need ≡ need_of_number first → q ≡ Some p → IsHeld need q o
-    → ((h : History) → IsHeldPart (need_of_number second) p h → pick_list h.events second ≡ made) → refused_sheet made ≡ refused_order number o
-order_why number first second need o q p made f s n is held listed =
-    let known = subst (λ k. IsHeld k (Some p) o) (n ∙ ap need_of_number f) (subst (λ k. IsHeld need k o) is held) in
-    why_of number o p made known (subst (λ k. (h : History) → IsHeldPart (need_of_number k) p h → pick_list h.events k ≡ made) s listed)
+  pub sheet_why : (number first second : List ℕ) (need : Need) (o : Option History) (q : _) (p : _) (made : Result (List ℕ) Refusal)
+      → first ≡ number → second ≡ number → need ≡ needs first → q ≡ Some p → IsHeld need q o
+      → ((h : History) → IsHeldPart (needs second) p h → sheet second h ≡ made) → refused_sheet made ≡ refused_by (sheet number) o
+  sheet_why number first second need o q p made f s n is held listed =
+      let known = subst (λ k. IsHeld k (Some p) o) (n ∙ ap needs f) (subst (λ k. IsHeld need k o) is held) in
+      why_of number o p made known (subst (λ k. (h : History) → IsHeldPart (needs k) p h → sheet k h ≡ made) s listed)
 
-pub stranger_why : (number : List ℕ) (need : Need) (o : Option History) (q : _) → q ≡ None → IsHeld need q o → refused_order number None ≡ refused_order number o
-stranger_why number need o q is held = of_none number need o (subst (λ k. IsHeld need k o) is held)
-  where
-    of_none : (number : List ℕ) (need : Need) (o : Option History) → IsHeld need None o → refused_order number None ≡ refused_order number o
-    of_none number need None held = refl
-    of_none number need (Some h) held = absurd held
+  pub stranger_why : (number : List ℕ) (need : Need) (o : Option History) (q : _) → q ≡ None → IsHeld need q o → refused_by (sheet number) None ≡ refused_by (sheet number) o
+  stranger_why number need o q is held = of_none number need o (subst (λ k. IsHeld need k o) is held)
+    where
+      of_none : (number : List ℕ) (need : Need) (o : Option History) → IsHeld need None o → refused_by (sheet number) None ≡ refused_by (sheet number) o
+      of_none number need None held = refl
+      of_none number need (Some h) held = absurd held
 
 -- the line of a refusal that is this one
 pub why_said : {S : Type 0} (why found : Option Refusal) (before later : Option (List ℕ)) (r : Result S CommandError) → why ≡ found → OnOk r (Appends before later (line_if why))

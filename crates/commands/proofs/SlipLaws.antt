@@ -1,20 +1,20 @@
 -- What a clerk's words and the file with their sheet come to.
 use Rattle.std.proofs.Common.{◌≡◌, ◌≢◌, ◌&&◌, Bool, true, false, List, ℕ, Some, None, Err, refl, sym, subst, inl, inr, if◌then◌else◌}
 use Rattle.std.specs.Cmp.Derive.{both_true}
-use Rattle.profile.proofs.TextLaws.{both_parts}
-use Rattle.profile.specs.Limits.{most_ticket}
-use Rattle.profile.specs.Bytes.{is_identifier}
-use Rattle.profile.specs.Header.{Who, is_partner, who_of}
-use Rattle.profile.specs.Means.{Line}
-use Rattle.profile.specs.Accepted.{is_command}
-use Rattle.profile.specs.Clerk.{is_act, is_sheet}
-use Rattle.profile.specs.Register.{Clerk}
-use Rattle.profile.specs.declared.rules.Rules.TheVariants.{Two}
-use Rattle.profile.specs.declared.sheet_kind.SheetKind.{SheetKind}
-use Rattle.profile.specs.declared.sheet_kind.SheetKind.TheVariants.{Count, Pick, Recount}
+use Rattle.definitions.proofs.TextLaws.{both_parts}
+use Rattle.definitions.specs.Limits.{most_ticket}
+use Rattle.definitions.specs.Bytes.{is_identifier}
+use Rattle.definitions.specs.Header.{Who, is_partner, who_of}
+use Rattle.definitions.specs.Means.{Line}
+use Rattle.definitions.specs.Accepted.{is_command}
+use Rattle.definitions.specs.Clerk.{is_act, is_sheet}
+use Rattle.definitions.specs.Register.{Clerk}
+use Rattle.definitions.specs.Rules.{Today}
+use Rattle.definitions.specs.declared.sheet_kind.SheetKind.{SheetKind}
+use Rattle.definitions.specs.declared.sheet_kind.SheetKind.TheVariants.{Count, Pick, Recount}
 use Rattle.intake.specs.Calls.{act_of, depositor_of, is_named}
-use Rattle.profile.specs.declared.refusals.Refusal.{Refusal}
-use Rattle.profile.specs.declared.refusals.Refusal.TheVariants.{Unreadable, Note, Duplicate, UnknownDepositor, TicketUsed, UnknownAdvice, AdviceClosed, UnknownOrder, OrderClosed, NotReserved, UnknownLot, BelowReserved, NoDifference, TooMuch, RepeatedLine, BadText, TooManyLines, NumbersUsedUp, AlreadyEnrolled}
+use Rattle.definitions.specs.declared.refusals.Refusal.{Refusal}
+use Rattle.definitions.specs.declared.refusals.Refusal.TheVariants.{Unreadable, Note, Duplicate, UnknownDepositor, TicketUsed, UnknownAdvice, AdviceClosed, UnknownOrder, OrderClosed, NotReserved, UnknownLot, BelowReserved, NoDifference, TooMuch, RepeatedLine, BadText, TooManyLines, NumbersUsedUp, AlreadyEnrolled}
 use Rattle.command_line.specs.declared.words.BookAct.{BookAct}
 use Rattle.command_line.specs.declared.words.BookAct.TheVariants as act
 use Rattle.command_line.specs.declared.words.ClerkWords.{ClerkWords}
@@ -47,17 +47,17 @@ long_other NumbersUsedUp h = refl
 long_other AlreadyEnrolled h = refl
 
 -- an act whose number and sheet are good
-act_good : (kind : SheetKind) (number : List ℕ) (sheet : List Line) → is_named kind number ≡ true → is_sheet Two kind sheet ≡ true → is_act Two (act_of kind number sheet) ≡ true
+act_good : (kind : SheetKind) (number : List ℕ) (sheet : List Line) → is_named kind number ≡ true → is_sheet Today kind sheet ≡ true → is_act Today (act_of kind number sheet) ≡ true
 act_good Count number sheet named good = both_true named good
 act_good Pick number sheet named good = both_true named good
 act_good Recount number sheet named good = good
 
 -- words that name a depositor, with a sheet of their kind, make a command that can be given
-pub given_good : (kind : SheetKind) (name ticket number : List ℕ) (w : Who) (sheet : List Line) → depositor_of kind name ticket number ≡ Some w → is_sheet Two kind sheet ≡ true
-    → is_partner w ≡ true → is_command Two (Clerk w ticket (act_of kind number sheet)) ≡ true
+pub given_good : (kind : SheetKind) (name ticket number : List ℕ) (w : Who) (sheet : List Line) → depositor_of kind name ticket number ≡ Some w → is_sheet Today kind sheet ≡ true
+    → is_partner w ≡ true → is_command Today (Clerk w ticket (act_of kind number sheet)) ≡ true
 given_good kind name ticket number w sheet named good partner = by (is_identifier 1 most_ticket ticket && is_named kind number) refl named
   where
-    by : (b : Bool) → (is_identifier 1 most_ticket ticket && is_named kind number) ≡ b → (if b then who_of name else None) ≡ Some w → is_command Two (Clerk w ticket (act_of kind number sheet)) ≡ true
+    by : (b : Bool) → (is_identifier 1 most_ticket ticket && is_named kind number) ≡ b → (if b then who_of name else None) ≡ Some w → is_command Today (Clerk w ticket (act_of kind number sheet)) ≡ true
     by true e h =
         let p = both_parts (is_identifier 1 most_ticket ticket) (is_named kind number) e in
         both_true (both_true partner p.0) (act_good kind number sheet p.1 good)

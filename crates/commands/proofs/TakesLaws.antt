@@ -1,6 +1,6 @@
 -- A folder that wasn't taken.
 use Rattle.std.proofs.Common.{None, inl, refl}
-use Rattle.profile.specs.Moments.{Moment}
+use Rattle.definitions.specs.Moments.{Moment}
 use Rattle.store.specs.Fault.TheVariants.{OutOfMemory}
 use Rattle.store.specs.Standing.{Standing}
 use Rattle.folders.proofs.Taking.{none_counted}

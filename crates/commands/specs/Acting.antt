@@ -1,10 +1,10 @@
 -- What a command that was made ready does to a book, and what is printed of it.
 use Rattle.std.specs.Prelude.{ℕ, List, [], Option, Result, IfOk, IfErr, OnOk, OnErr}
 use Rattle.std.specs.Io.KnownBytes.{Appends}
-use Rattle.profile.specs.declared.rules.Rules.TheVariants.{Two}
-use Rattle.profile.specs.Accepted.{reply_to, after}
-use Rattle.profile.specs.Moments.{Moment}
-use Rattle.profile.specs.Register.{Command, Enrol, Interchange}
+use Rattle.definitions.specs.Rules.{Today}
+use Rattle.definitions.specs.Accepted.{reply_to, after}
+use Rattle.definitions.specs.Moments.{Moment}
+use Rattle.definitions.specs.Register.{Command, Enrol, Interchange}
 use Rattle.store.specs.Standing.{Standing, IsUsable, LeavesEither, OfKept, OfUsable}
 use Rattle.commands.specs.Clerks.{command_of}
 use Rattle.commands.specs.Enrolling.{IsEnrolling}
@@ -27,11 +27,11 @@ pub record IsHandedIn
     (old new : Standing) (c : Command) (t : Moment) (before later : Option (List ℕ))
     (ending : Ending) : Type 0 where
   pub printed : OfKept old new
-      (λ L. IfOk ending (IsPrinted (reply_to Two old.warehouse L c t) before later))
+      (λ L. IfOk ending (IsPrinted (reply_to Today old.warehouse L c t) before later))
   pub done : OfUsable old new
-      (λ L. OnOk ending (IsUsable new (after Two old.warehouse L (c, t))))
+      (λ L. OnOk ending (IsUsable new (after Today old.warehouse L (c, t))))
   pub left : OfUsable old new
-      (λ L. OnErr ending (LeavesEither new L (after Two old.warehouse L (c, t))))
+      (λ L. OnErr ending (LeavesEither new L (after Today old.warehouse L (c, t))))
   pub stopped : IfErr ending (IsStopped old new c t printed_of before later)
 
 -- what was made ready was done; a list of depositors and a folder are many commands
@@ -54,7 +54,7 @@ abbrev pub IsSaid : Standing → Standing → Command → Moment → Option (Lis
     → Ending → Type 0
 IsSaid old new c t before later ending =
     OfKept old new
-    (λ L. OnOk ending (Appends before later (said_of (reply_to Two old.warehouse L c t))))
+    (λ L. OnOk ending (Appends before later (said_of (reply_to Today old.warehouse L c t))))
 
 -- the same of what was made ready; what is refused of a list is printed, and of what `take` tells
 -- nothing is said here

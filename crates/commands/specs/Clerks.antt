@@ -1,13 +1,13 @@
 -- What a clerk did, as the words of a line and a sheet tell it.
 use Rattle.std.specs.Prelude.{◌≡◌, ◌⊎◌, ◌+◌, ℕ, nat_lt, if◌then◌else◌, List, length, Option, Some, None, Result, Ok, Err}
-use Rattle.profile.specs.declared.sheet_kind.SheetKind.{SheetKind}
-use Rattle.profile.specs.declared.rules.Rules.TheVariants.{Two}
-use Rattle.profile.specs.Header.{Who}
-use Rattle.profile.specs.Means.{Line}
-use Rattle.profile.specs.Register.{Command, Clerk}
+use Rattle.definitions.specs.declared.sheet_kind.SheetKind.{SheetKind}
+use Rattle.definitions.specs.Rules.{Today}
+use Rattle.definitions.specs.Header.{Who}
+use Rattle.definitions.specs.Means.{Line}
+use Rattle.definitions.specs.Register.{Command, Clerk}
 use Rattle.sheet_texts.specs.Texts.{sheet_of_text}
-use Rattle.profile.specs.declared.refusals.Refusal.{Refusal}
-use Rattle.profile.specs.declared.refusals.Refusal.TheVariants.{BadText, TooManyLines}
+use Rattle.definitions.specs.declared.refusals.Refusal.{Refusal}
+use Rattle.definitions.specs.declared.refusals.Refusal.TheVariants.{BadText, TooManyLines}
 use Rattle.intake.specs.Calls as calls
 use Rattle.commands.specs.Files.{Reads}
 use Rattle.commands.specs.declared.files.TheConstants.{MOST_SHEET}
@@ -30,8 +30,8 @@ long_reason made = BadText
 -- have
 abbrev pub sheet_read : SheetKind → List ℕ → Result (List Line) Refusal
 sheet_read kind text =
-    if nat_lt MOST_SHEET (length text) then Err (long_reason (sheet_of_text Two kind text))
-    else sheet_of_text Two kind text
+    if nat_lt MOST_SHEET (length text) then Err (long_reason (sheet_of_text Today kind text))
+    else sheet_of_text Today kind text
 
 -- this was read of the file that the words name
 abbrev pub IsSheetRead : Reads → ClerkWords → List ℕ → Type 0

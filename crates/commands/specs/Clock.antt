@@ -2,8 +2,8 @@
 use Rattle.std.specs.Prelude.{◌≡◌, ℕ, ℤ, pos, negsuc, Option, Some, None, if◌then◌else◌}
 use Rattle.jiff.specs.Types.{DateTime, Timestamp}
 use Rattle.jiff.specs.Words.{civil_nanos}
-use Rattle.profile.specs.Bytes.{is_between}
-use Rattle.profile.specs.Moments.{Moment}
+use Rattle.definitions.specs.Bytes.{is_between}
+use Rattle.definitions.specs.Moments.{Moment}
 
 -- a minute of a year, where that is one of 2000 to 2099
 abbrev pub minute_in : ℤ → ℕ → ℕ → ℕ → ℕ → Option Moment

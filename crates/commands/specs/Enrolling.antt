@@ -2,13 +2,13 @@
 use Rattle.std.specs.Prelude.{◌≡◌, ◌⊎◌, ◌<◌, ◌+◌, ◌++◌, ◌∷◌, [], ℕ, Bool, true, false, List, Option, Result, Ok, Err, codes, decimal, length, map, take, if◌then◌else◌}
 use Rattle.std.specs.Io.KnownBytes.{Appends}
 use Rattle.std.specs.List.{list_any}
-use Rattle.profile.specs.declared.rules.Rules.TheVariants.{Two}
-use Rattle.profile.specs.Accepted.{accepted_on, replies_on, after, reply_to}
-use Rattle.profile.specs.Header.{Who, who_text}
-use Rattle.profile.specs.Moments.{Moment}
-use Rattle.profile.specs.Refusals.{refusal_number}
-use Rattle.profile.specs.Register.{Entry, Command, Enrol}
-use Rattle.profile.specs.Reply as replies
+use Rattle.definitions.specs.Rules.{Today}
+use Rattle.definitions.specs.Accepted.{accepted_on, replies_on, after, reply_to}
+use Rattle.definitions.specs.Header.{Who, who_text}
+use Rattle.definitions.specs.Moments.{Moment}
+use Rattle.definitions.specs.Refusals.{refusal_number}
+use Rattle.definitions.specs.Register.{Entry, Command, Enrol}
+use Rattle.definitions.specs.Reply as replies
 use Rattle.store.specs.Standing.{Standing, IsUsable, KeepsLegal, LeavesEither, IsRunFault, OfKept, OfUsable}
 use Rattle.commands.specs.Printing.{AppendsFront}
 use Rattle.commands.specs.Stops.{IsDeviceStop, IsFaultThat}
@@ -37,8 +37,8 @@ line_of who other = who_text who ++ codes " enrolled\n"
 -- the lines of all, each after what those before it left
 unfoldable pub lines_of : Who → List Entry → Moment → List Who → List ℕ
 lines_of W L t [] = []
-lines_of W L t (who ∷ whos) = line_of who (reply_to Two W L (Enrol who) t)
-    ++ lines_of W (after Two W L (Enrol who, t)) t whos
+lines_of W L t (who ∷ whos) = line_of who (reply_to Today W L (Enrol who) t)
+    ++ lines_of W (after Today W L (Enrol who, t)) t whos
 
 -- each of them was handed in: the register is the one after all, this is the status, and a line is
 -- printed of each
@@ -46,11 +46,11 @@ pub record AreEnrolled
     (old new : Standing) (whos : List Who) (t : Moment) (before later : Option (List ℕ))
     (status : ExitStatus) : Type 0 where
   pub usable : OfUsable old new
-      (λ L. IsUsable new (accepted_on Two old.warehouse L (enrolments t whos)))
+      (λ L. IsUsable new (accepted_on Today old.warehouse L (enrolments t whos)))
   pub keeps : OfKept old new (λ L. KeepsLegal new
-      (accepted_on Two old.warehouse L (enrolments t whos)))
+      (accepted_on Today old.warehouse L (enrolments t whos)))
   pub says : OfUsable old new
-      (λ L. status ≡ status_of_replies (replies_on Two old.warehouse L (enrolments t whos)))
+      (λ L. status ≡ status_of_replies (replies_on Today old.warehouse L (enrolments t whos)))
   pub printed : OfUsable old new (λ L. Appends before later (lines_of old.warehouse L t whos))
 
 -- after these the book gave no answer, and the lines of these are printed
@@ -67,7 +67,7 @@ pub record IsUnlisted
     (stop : CommandError) : Type 0 where
   pub opened : new.shut ≡ false
   pub done : OfUsable old new
-      (λ L. IsUsable new (accepted_on Two old.warehouse L (enrolments t whos)))
+      (λ L. IsUsable new (accepted_on Today old.warehouse L (enrolments t whos)))
   pub printed : OfUsable old new (λ L. AppendsFront before later (lines_of old.warehouse L t whos))
   pub why : IsDeviceStop stop
 
@@ -87,8 +87,8 @@ pub record AreEnrolledUntil
   pub count : ℕ
   pub within : count < length whos
   pub left : OfUsable old new
-      (λ L. LeavesEither new (accepted_on Two old.warehouse L (enrolments t (take count whos)))
-      (accepted_on Two old.warehouse L (enrolments t (take (count + 1) whos))))
+      (λ L. LeavesEither new (accepted_on Today old.warehouse L (enrolments t (take count whos)))
+      (accepted_on Today old.warehouse L (enrolments t (take (count + 1) whos))))
   pub stopped : IsListStopped old new whos count t before later stop
 
 -- how a list ended

@@ -1,7 +1,7 @@
 -- What failed outside of the program, by which a device is named.
 use Rattle.std.specs.Prelude.{◌≡◌, ◌⊎◌, ℕ, List, Option, Some, Result, Ok, Err}
 use Rattle.std.specs.declared.io.ErrorKind.{ErrorKind}
-use Rattle.gauges.specs.Gauges.{CountsWrite, Grew}
+use Rattle.counted_io.specs.Gauges.{CountsWrite, Grew}
 use Rattle.store.specs.Fault.TheVariants.{Device}
 use Rattle.folders.specs.Folders.{fault_of_kind}
 use Rattle.commands.specs.Stops.{fault_in}

@@ -1,7 +1,7 @@
 -- The documents that went out to a depositor, as they are left in a folder.
 use Rattle.std.specs.Prelude.{ℕ, Bool, not, List, filter, Option, Some, None, bytes_eq, codes, ⊤}
 use Rattle.std.specs.List.{AllByRecursion}
-use Rattle.profile.specs.Rows.{OutRow}
+use Rattle.definitions.specs.Rows.{OutRow}
 use Rattle.folders.specs.Documents.{IsLeft, document_path}
 use Rattle.folders.specs.declared.documents.DocumentLeft.{DocumentLeft}
 use Rattle.folders.specs.declared.file_system.EntryKind.{EntryKind}

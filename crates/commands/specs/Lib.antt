@@ -7,6 +7,7 @@ pub mod Stops
 pub mod Failures
 pub mod Clerks
 pub mod Acting
+pub mod Trying
 pub mod Readying
 pub mod HandingOn
 pub mod Looking

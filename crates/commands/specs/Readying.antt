@@ -1,15 +1,16 @@
 -- What the words of a line are made ready to, and what comes of it.
 use Rattle.std.specs.Prelude.{◌≡◌, ◌⊎◌, ◌+◌, ℕ, List, [], Option, Some, None, IfOk, IfSome, OnOk}
 use Rattle.std.specs.Io.KnownBytes.{Appends}
-use Rattle.profile.specs.declared.limits.TheConstants.{MOST_BYTES}
-use Rattle.profile.specs.Header.{Who, who_of}
-use Rattle.profile.specs.Moments.{Moment}
+use Rattle.definitions.specs.declared.limits.TheConstants.{MOST_BYTES}
+use Rattle.definitions.specs.Header.{Who, who_of}
+use Rattle.definitions.specs.Moments.{Moment}
 use Rattle.store.specs.Refusal.{Refusal}
 use Rattle.store.specs.Refusal.TheVariants.{BadText}
 use Rattle.store.specs.Standing.{Standing, IsUnchanged}
 use Rattle.commands.specs.Acting.{Ending, IsPerformed}
 use Rattle.commands.specs.Clerks.{IsNoSlip, IsSlipOf}
-use Rattle.commands.specs.Files.{Reads, IsLonger, IsWithin, reads_any}
+use Rattle.commands.specs.Files.{Reads, IsLonger, IsWithin}
+use Rattle.commands.specs.Trying.{IsTriedOf}
 use Rattle.command_line.specs.Rosters.{IsRosterRead}
 use Rattle.commands.specs.declared.files.TheConstants.{MOST_ROSTER}
 use Rattle.commands.specs.declared.acts.Ready.{Ready}
@@ -58,24 +59,39 @@ pub record IsNothingDone
   pub printed : Appends before later []
   pub says : IfOk ending (λ status. status ≡ Refused)
 
--- these words were refused for a reason that holds of them, or a fault came first
+-- these words were refused for a reason that holds of them and of their file, or a fault came first
 pub record IsNotReady
-    (old new : Standing) (a : BookAct) (before later : Option (List ℕ)) (ending : Ending)
+    (reads : Reads) (old new : Standing) (a : BookAct) (before later : Option (List ℕ)) (ending : Ending)
     : Type 0 where
   pub left : IsNothingDone old new before later ending
-  pub why : OnOk ending ((refusal : Refusal) × IsUnready reads_any a refusal)
+  pub why : OnOk ending ((refusal : Refusal) × IsUnready reads a refusal)
 
 -- what the words ask for was done, at the moment that the line says, if it says one
 pub record IsDoneAt
-    (old new : Standing) (a : BookAct) (at : Option Moment) (before later : Option (List ℕ))
-    (ending : Ending) : Type 0 where
+    (reads : Reads) (old new : Standing) (a : BookAct) (at : Option Moment)
+    (before later : Option (List ℕ)) (ending : Ending) : Type 0 where
   pub ready : Ready
-  pub made : IsMadeReady reads_any a ready
+  pub made : IsMadeReady reads a ready
   pub moment : Moment
   pub given : IfSome at (λ t. moment ≡ t)
   pub performed : IsPerformed old new ready moment before later ending
 
-abbrev pub IsChange : Standing → Standing → BookAct → Option Moment → Option (List ℕ)
-    → Option (List ℕ) → Ending → Type 0
-IsChange old new a at before later ending = IsDoneAt old new a at before later ending
-    ⊎ IsNotReady old new a before later ending
+-- what the words ask for was tried, at the moment that the line says, if it says one
+pub record IsTriedAt
+    (reads : Reads) (old new : Standing) (a : BookAct) (at : Option Moment)
+    (before later : Option (List ℕ)) (ending : Ending) : Type 0 where
+  pub ready : Ready
+  pub made : IsMadeReady reads a ready
+  pub moment : Moment
+  pub given : IfSome at (λ t. moment ≡ t)
+  pub tried : IsTriedOf old new ready moment before later ending
+
+abbrev pub IsTrial : Reads → Standing → Standing → BookAct → Option Moment
+    → Option (List ℕ) → Option (List ℕ) → Ending → Type 0
+IsTrial reads old new a at before later ending = IsTriedAt reads old new a at before later ending
+    ⊎ IsNotReady reads old new a before later ending
+
+abbrev pub IsChange : Reads → Standing → Standing → BookAct → Option Moment
+    → Option (List ℕ) → Option (List ℕ) → Ending → Type 0
+IsChange reads old new a at before later ending = IsDoneAt reads old new a at before later ending
+    ⊎ IsNotReady reads old new a before later ending

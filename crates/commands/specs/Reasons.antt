@@ -1,7 +1,7 @@
 -- Which line of a sheet a refusal is about, by what a book keeps of the pairs.
 use Rattle.std.specs.Prelude.{ℕ, ◌==◌, Bool, true, not, ◌&&◌, List, Option, Some, None, if◌then◌else◌, nat_lt, bytes_eq, find, count_by, is_none}
 use Rattle.std.specs.Option.{option_or}
-use Rattle.profile.specs.Means.{Line}
+use Rattle.definitions.specs.Means.{Line}
 use Rattle.store.specs.Refusal.{Refusal}
 use Rattle.store.specs.Refusal.TheVariants as refusals
 use Rattle.commands.specs.declared.reasons.KeptPair.{KeptPair}

@@ -2,7 +2,7 @@
 use Rattle.std.specs.Prelude.{◌≡◌, ◌⊎◌, ℕ, false, List, Option, Ok, IfSome, OnOk}
 use Rattle.std.specs.List.{FoldsTo}
 use Rattle.std.specs.Io.KnownBytes.{Appends}
-use Rattle.profile.specs.Moments.{Moment}
+use Rattle.definitions.specs.Moments.{Moment}
 use Rattle.store.specs.Refusal.{Refusal}
 use Rattle.store.specs.Refusal.TheVariants.{BadText}
 use Rattle.store.specs.Standing.{Standing}
@@ -19,6 +19,7 @@ use Rattle.commands.specs.Playing.{IsRowRead}
 use Rattle.commands.specs.Readying.{IsMadeReady, IsUnready}
 use Rattle.commands.specs.Refused.{IsLookSaid}
 use Rattle.commands.specs.Telling.{refused_line}
+use Rattle.commands.specs.Trying.{IsTrialSaidOf}
 use Rattle.commands.specs.declared.acts.Ready.{Ready}
 use Rattle.commands.specs.declared.shows.Look.{Look}
 use Rattle.commands.specs.declared.told.ExitStatus.{ExitStatus}
@@ -31,6 +32,14 @@ module _ (reads : Reads) (old new : Standing) (before later : Option (List ℕ))
     pub moment : Moment
     pub given : IfSome at (λ t. moment ≡ t)
     pub said : IsSaidOf old new ready moment before later ending
+
+  -- what was made ready is tried, and tells so
+  pub record IsTrialTold (a : BookAct) (at : Option Moment) : Type 0 where
+    pub ready : Ready
+    pub made : IsMadeReady reads a ready
+    pub moment : Moment
+    pub given : IfSome at (λ t. moment ≡ t)
+    pub said : IsTrialSaidOf old new ready moment before later ending
 
   -- words that aren't made ready are refused for a reason that holds of them
   pub record IsUnreadySaid (a : BookAct) : Type 0 where
@@ -45,6 +54,7 @@ module _ (reads : Reads) (old new : Standing) (before later : Option (List ℕ))
 
   abbrev pub IsTaskSaid : Task → Type 0
   IsTaskSaid (task.Act a at) = IsActSaid a at ⊎ IsUnreadySaid a
+  IsTaskSaid (task.Try a at) = IsTrialTold a at ⊎ IsUnreadySaid a
   IsTaskSaid (task.Show s) = IsViewSaid s
   IsTaskSaid other = Unit {0}
 

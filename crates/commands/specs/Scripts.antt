@@ -1,16 +1,21 @@
 -- What a script comes to: its first row makes a book, and the others are played over it.
-use Rattle.std.specs.Prelude.{◌≡◌, ◌⊎◌, ◌∷◌, [], ℕ, List, Option, Some, None, IsUtf8}
-use Rattle.profile.specs.Header.{Who, who_of}
-use Rattle.profile.specs.Readings.{parts_at}
+use Rattle.std.specs.Prelude.{◌≡◌, ◌⊎◌, ◌∷◌, [], ℕ, false, List, Option, Some, None, IfOk, IfErr, IsUtf8}
+use Rattle.definitions.specs.Accepted.{IsLegal}
+use Rattle.definitions.specs.Header.{Who, who_of}
+use Rattle.definitions.specs.Rules.{Today}
+use Rattle.definitions.specs.Readings.{parts_at}
 use Rattle.store.specs.Fault.TheVariants.{OutOfMemory}
+use Rattle.store.specs.Replayed.{all_written}
 use Rattle.store.specs.Standing.{Standing, IsUsable}
+use Rattle.store.specs.declared.replaying.ReplayBook.{ReplayBook}
 use Rattle.command_line.specs.Asked.{CanBeRead}
 use Rattle.command_line.specs.declared.words.Place.TheVariants.{Script}
 use Rattle.command_line.specs.declared.words.Words.{Words}
 use Rattle.command_line.specs.declared.words.Words.TheVariants as words
 use Rattle.command_line.specs.declared.words.Task.TheVariants as task
+use Rattle.commands.specs.Acting.{Ending}
 use Rattle.commands.specs.Files.{Reads, IsLonger, IsWithin}
-use Rattle.commands.specs.Playing.{HasPlayed, HasStopped, IsRowRead}
+use Rattle.commands.specs.Playing.{HasPlayed, HasStopped, IsRowRead, asking}
 use Rattle.commands.specs.Stops.{HasDeviceFault, IsUsageStop}
 use Rattle.commands.specs.declared.files.TheConstants.{MOST_SCRIPT}
 use Rattle.commands.specs.declared.told.CommandError.{CommandError}
@@ -59,15 +64,16 @@ pub record CanMakeBook (row : List ℕ) : Type 0 where
 -- Of the rows of a script that ask for something the first made a book, and the others were played
 -- over it, one after the other, each once.
 pub record IsPlayedOver
-    {K W : Type 0} (standing : K → Standing) (contents : W → Option (List ℕ))
-    (rows : List (List ℕ)) (before later : W) (status : ExitStatus) : Type 0 where
+    {K W : Type 0} (reads : Reads) (standing : K → Standing)
+    (contents : W → Option (List ℕ)) (rows : List (List ℕ)) (before later : W)
+    (status : ExitStatus) : Type 0 where
   pub first : List ℕ
   pub others : List (List ℕ)
   pub are : rows ≡ first ∷ others
   pub made : K
   pub by : IsMadeBy standing first made
   pub left : K
-  pub played : HasPlayed standing contents (made, (before, Done)) others (left, (later, status))
+  pub played : HasPlayed reads standing contents (made, (before, Done)) others (left, (later, status))
 
 -- The first of the rows was refused, since its name can't be read, and nothing was done.
 pub record IsNotBegun
@@ -79,10 +85,11 @@ pub record IsNotBegun
   pub refused : status ≡ Refused
   pub same : later ≡ before
 
-abbrev pub IsScriptDone : {K W : Type 0} → (K → Standing) → (W → Option (List ℕ)) → List (List ℕ)
-    → W → W → ExitStatus → Type 0
-IsScriptDone standing contents rows before later status =
-    IsPlayedOver standing contents rows before later status ⊎ IsNotBegun rows before later status
+abbrev pub IsScriptDone : {K W : Type 0} → Reads → (K → Standing) → (W → Option (List ℕ))
+    → List (List ℕ) → W → W → ExitStatus → Type 0
+IsScriptDone reads standing contents rows before later status =
+    IsPlayedOver reads standing contents rows before later status
+    ⊎ IsNotBegun rows before later status
 
 -- No book was made, and nothing was printed: there was no row, or the first one asked for none. One
 -- that could be done lacked memory.
@@ -94,18 +101,54 @@ pub record IsNotMade
 
 -- the first row made a book, and one of the others stopped what was played over it
 pub record IsStoppedOver
-    {K W : Type 0} (standing : K → Standing) (contents : W → Option (List ℕ))
-    (rows : List (List ℕ)) (before later : W) (stop : CommandError) : Type 0 where
+    {K W : Type 0} (reads : Reads) (standing : K → Standing)
+    (contents : W → Option (List ℕ)) (rows : List (List ℕ)) (before later : W)
+    (stop : CommandError) : Type 0 where
   pub first : List ℕ
   pub others : List (List ℕ)
   pub are : rows ≡ first ∷ others
   pub made : K
   pub by : IsMadeBy standing first made
   pub left : K
-  pub stopped : HasStopped standing contents (made, (before, Done)) others left later stop
+  pub stopped : HasStopped reads standing contents (made, (before, Done)) others left later stop
 
-abbrev pub IsScriptStopped : {K W : Type 0} → (K → Standing) → (W → Option (List ℕ))
-    → List (List ℕ) → W → W → CommandError → Type 0
-IsScriptStopped standing contents rows before later stop =
+abbrev pub IsScriptStopped : {K W : Type 0} → Reads → (K → Standing)
+    → (W → Option (List ℕ)) → List (List ℕ) → W → W → CommandError → Type 0
+IsScriptStopped reads standing contents rows before later stop =
     IsNotMade rows before later stop
-    ⊎ IsStoppedOver standing contents rows before later stop
+    ⊎ IsStoppedOver reads standing contents rows before later stop
+
+-- The script in a file was played: its text, as it was read, was done so.
+abbrev pub IsScriptPlayed : {K W : Type 0} → Reads → (K → Standing) → (W → Option (List ℕ))
+    → List ℕ → W → W → ExitStatus → Type 0
+IsScriptPlayed reads standing contents file before later status =
+    (text : List ℕ) × IsWithin reads file MOST_SCRIPT text
+    × IsScriptDone reads standing contents (asking text) before later status
+
+-- The script in a file wasn't played to its end: it can't be read, and nothing was printed, or one
+-- of its lines stopped it.
+abbrev pub IsScriptHalted : {K W : Type 0} → Reads → (K → Standing) → (W → Option (List ℕ))
+    → List ℕ → W → W → CommandError → Type 0
+IsScriptHalted reads standing contents file before later stop =
+    (IsTextUnread reads file stop × (later ≡ before))
+    ⊎ ((text : List ℕ) × IsWithin reads file MOST_SCRIPT text
+    × IsScriptStopped reads standing contents (asking text) before later stop)
+
+-- what a book in memory stands for
+abbrev pub in_memory : ReplayBook → Standing
+in_memory b = record {
+  warehouse = b.warehouse;
+  keeps = λ L. b.entries ≡ all_written L;
+  left = λ L. (b.entries ≡ all_written L) × IsLegal Today b.warehouse L;
+  all_stand = Unit {0};
+  doubt = 0;
+  refusals = 0;
+  shut = false;
+}
+
+-- What a line that names a script came to.
+pub record IsScriptRun
+    {W : Type 0} (reads : Reads) (contents : W → Option (List ℕ)) (file : List ℕ)
+    (before later : W) (ending : Ending) : Type 0 where
+  pub played : IfOk ending (IsScriptPlayed reads in_memory contents file before later)
+  pub halted : IfErr ending (IsScriptHalted reads in_memory contents file before later)

@@ -1,19 +1,19 @@
 -- Whose requests a server takes, and when its connections come.
 use Rattle.std.specs.Prelude.{◌≡◌, ◌≤◌, ℕ, Bool, true, false, List, Option, Some, None, All, length, map, unwrap_or}
 use Rattle.std.specs.List.{FoldsTo}
-use Rattle.profile.specs.Moments.{Moment}
+use Rattle.definitions.specs.Moments.{Moment}
 use Rattle.store.specs.Standing.{Standing, IsUnchanged}
 use Rattle.intake.specs.Connections.{IsEnough, IsServed, counted_of, moment_of}
 use Rattle.command_line.specs.declared.words.Service.{Service}
 use Rattle.intake.specs.declared.audience.Access.{Access}
 use Rattle.intake.specs.declared.audience.Audience.{Audience}
-use Rattle.intake.specs.declared.audience.Audience.TheVariants.{Partners, Clerks}
+use Rattle.intake.specs.declared.audience.Audience.TheVariants.{Testers, Clerks}
 use Rattle.intake.specs.declared.served.Connection.{Connection}
 
 -- clerks' only where the line says so
 abbrev pub audience_of : Bool → Audience
 audience_of true = Clerks
-audience_of false = Partners
+audience_of false = Testers
 
 -- whom a service answers: there are always doors, which know it by these names beside its address,
 -- and the health of the book is always told

@@ -1,15 +1,18 @@
 -- What is shown of a register, and the status that it gives.
-use Rattle.std.specs.Prelude.{◌≡◌, ◌⊎◌, ℕ, Bool, List, [], Option, Some, None, Result, Ok, Err, IfOk, IfErr}
+use Rattle.std.specs.Prelude.{◌≡◌, ◌⊎◌, ℕ, Bool, List, [], Option, Some, None, Result, Ok, Err, IfOk, IfErr, if◌then◌else◌}
 use Rattle.std.specs.Io.KnownBytes.{Appends}
-use Rattle.profile.specs.Decision.{standing}
-use Rattle.profile.specs.Header.{Who}
-use Rattle.profile.specs.History.{History}
-use Rattle.profile.specs.Moments.{Moment}
-use Rattle.profile.specs.declared.refusals.Refusal.{Refusal}
-use Rattle.profile.specs.Register.{Entry, own}
-use Rattle.profile.specs.Reports.{outbox_list, pick_list}
-use Rattle.profile.specs.Rows.{StockRow, OutRow, stock_of, outbox_of}
+use Rattle.definitions.specs.Decision.{standing}
+use Rattle.definitions.specs.Header.{Who}
+use Rattle.definitions.specs.Events.{Event}
+use Rattle.definitions.specs.History.{History}
+use Rattle.definitions.specs.Moments.{Moment}
+use Rattle.definitions.specs.declared.refusals.Refusal.{Refusal}
+use Rattle.definitions.specs.Register.{Entry, own}
+use Rattle.definitions.specs.Reports.{outbox_list, pick_list}
+use Rattle.definitions.specs.Rows.{StockRow, OutRow, stock_of, outbox_of}
 use Rattle.reports.specs.Exports.{stock_text}
+use Rattle.reports.specs.PickSheets.{picking_csv}
+use Rattle.reports.specs.Receiving.{receiving_csv, receiving_list}
 use Rattle.reports.specs.Open.{depositor_list, open_report}
 use Rattle.store.specs.Open.{OpenWork, enrolled, open_of}
 use Rattle.seals.specs.Noted.{noted_line, noted_of, noted_of_first}
@@ -53,10 +56,26 @@ abbrev pub shown_sheet : Result (List ℕ) Refusal → Shown
 shown_sheet (Ok text) = (text, Done)
 shown_sheet (Err why) = ([], Refused)
 
--- an order of a depositor's history
-abbrev pub shown_order : List ℕ → Option History → Shown
-shown_order number None = ([], Refused)
-shown_order number (Some h) = shown_sheet (pick_list h.events number)
+-- the sheet of an advice, or of an order, as text or as CSV
+abbrev pub receiving_text : Bool → List Event → List ℕ → Result (List ℕ) Refusal
+receiving_text is_csv events number =
+    if is_csv then receiving_csv events number else receiving_list events number
+
+abbrev pub picking_text : Bool → List Event → List ℕ → Result (List ℕ) Refusal
+picking_text is_csv events number =
+    if is_csv then picking_csv events number else pick_list events number
+
+-- a sheet of a depositor's history; a stranger has none
+abbrev pub shown_by : (History → Result (List ℕ) Refusal) → Option History → Shown
+shown_by sheet None = ([], Refused)
+shown_by sheet (Some h) = shown_sheet (sheet h)
+
+-- that of an advice, and that of an order
+abbrev pub shown_advice : Bool → List ℕ → Option History → Shown
+shown_advice is_csv number o = shown_by (λ h. receiving_text is_csv h.events number) o
+
+abbrev pub shown_order : Bool → List ℕ → Option History → Shown
+shown_order is_csv number o = shown_by (λ h. picking_text is_csv h.events number) o
 
 -- the seal of so many entries, if there are so many
 abbrev pub shown_first : Option (ℕ × List ℕ × Option Moment) → Shown
@@ -72,7 +91,9 @@ shown_seal (Some n) L = shown_first (noted_of_first n L)
 abbrev pub shown_of : Who → List Entry → Look → Shown
 shown_of W L (asks.Stock who is_csv) = shown_stock is_csv (stock_of L who)
 shown_of W L (asks.Open who) = shown_open (open_of L who)
-shown_of W L (asks.Order who number) = shown_order number.now (standing (own L who))
+shown_of W L (asks.Advice who number is_csv) =
+    shown_advice is_csv number.now (standing (own L who))
+shown_of W L (asks.Order who number is_csv) = shown_order is_csv number.now (standing (own L who))
 shown_of W L (asks.Outbox who None) = shown_list (outbox_of W L who)
 shown_of W L (asks.Outbox who (Some n)) = shown_text (text_of W L who n)
 shown_of W L asks.Depositors = shown_depositors (enrolled L)

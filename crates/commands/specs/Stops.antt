@@ -3,11 +3,11 @@ use Rattle.std.specs.Prelude.{◌≡◌, ◌⊎◌, ℕ, [], false, List, Option
 use Rattle.std.specs.IoError.{error_kind}
 use Rattle.std.specs.Io.KnownBytes.{Appends}
 use Rattle.std.specs.declared.io.Error.{Error}
-use Rattle.profile.specs.declared.rules.Rules.TheVariants.{Two}
-use Rattle.profile.specs.Accepted.{after, reply_to}
-use Rattle.profile.specs.Moments.{Moment}
-use Rattle.profile.specs.Register.{Command}
-use Rattle.profile.specs.Reply.{Reply}
+use Rattle.definitions.specs.Rules.{Today}
+use Rattle.definitions.specs.Accepted.{after, reply_to}
+use Rattle.definitions.specs.Moments.{Moment}
+use Rattle.definitions.specs.Register.{Command}
+use Rattle.definitions.specs.Reply.{Reply}
 use Rattle.store.specs.Standing.{Standing, IsUsable, IsFault, IsQueryFault, OfKept, OfUsable}
 use Rattle.store.specs.Fault.{Fault}
 use Rattle.store.specs.Fault.TheVariants as faults
@@ -65,9 +65,9 @@ pub record IsUntold
     (old new : Standing) (c : Command) (t : Moment) (shown : Reply → List ℕ)
     (before later : Option (List ℕ)) (stop : CommandError) : Type 0 where
   pub opened : new.shut ≡ false
-  pub done : OfUsable old new (λ L. IsUsable new (after Two old.warehouse L (c, t)))
+  pub done : OfUsable old new (λ L. IsUsable new (after Today old.warehouse L (c, t)))
   pub printed : OfKept old new
-      (λ L. AppendsFront before later (shown (reply_to Two old.warehouse L c t)))
+      (λ L. AppendsFront before later (shown (reply_to Today old.warehouse L c t)))
   pub why : IsDeviceStop stop
 
 -- what stopped a command of whose reply so much is printed: a fault of the book by which it wasn't

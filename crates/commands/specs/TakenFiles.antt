@@ -2,7 +2,7 @@
 -- those before one at which it stopped.
 use Rattle.std.specs.Prelude.{◌≡◌, ℕ, List, Option, Some, IsSome, map, flat_map, string_bytes}
 use Rattle.std.specs.Io.KnownBytes.{Appends}
-use Rattle.profile.specs.Moments.{Moment}
+use Rattle.definitions.specs.Moments.{Moment}
 use Rattle.store.specs.Fault.TheVariants.{OutOfMemory}
 use Rattle.store.specs.Standing.{Standing, IsUnchanged}
 use Rattle.folders.specs.Handed.{AreFilesHanded, HandedFile, IsStoppedIn}

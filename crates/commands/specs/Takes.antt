@@ -2,7 +2,7 @@
 use Rattle.std.specs.Prelude.{◌≡◌, ◌⊎◌, ℕ, Bool, true, false, List, Option, Result, Ok, Err, if◌then◌else◌, map, flat_map, string_bytes}
 use Rattle.std.specs.Io.KnownBytes.{Appends}
 use Rattle.std.specs.List.{list_any}
-use Rattle.profile.specs.Moments.{Moment}
+use Rattle.definitions.specs.Moments.{Moment}
 use Rattle.folders.specs.Folders.{Became, WasRefused, AreTextsTaken, IsFolderStopped, became_of}
 use Rattle.folders.specs.Lines.{taken_line}
 use Rattle.folders.specs.declared.folder.Taken.{Taken}

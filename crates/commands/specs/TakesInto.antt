@@ -2,7 +2,7 @@
 use Rattle.std.specs.Prelude.{◌≡◌, ℕ, Bool, true, false, not, ◌||◌, ◌==◌, length, List, Option, Result, Ok, Err, if◌then◌else◌, map, flat_map}
 use Rattle.std.specs.Io.KnownBytes.{Appends}
 use Rattle.std.specs.List.{list_any}
-use Rattle.profile.specs.Moments.{Moment}
+use Rattle.definitions.specs.Moments.{Moment}
 use Rattle.folders.specs.Folders.{AreTextsTaken}
 use Rattle.folders.specs.declared.into.TakenInto.{TakenInto}
 use Rattle.folders.specs.declared.naming.RunFolder.{RunFolder}

@@ -2,8 +2,8 @@
 -- stopped a command.
 use Rattle.std.specs.Prelude.{◌≡◌, ℕ, Bool, List, [], ◌∷◌, ◌++◌, length, ◌==◌, if◌then◌else◌, Option, codes, string_bytes}
 use Rattle.std.specs.Io.KnownBytes.{Appends}
-use Rattle.profile.specs.Refusals.{told_refusal, told_fault}
-use Rattle.profile.specs.Reply as replies
+use Rattle.definitions.specs.Refusals.{told_refusal, told_fault}
+use Rattle.definitions.specs.Reply as replies
 use Rattle.store.specs.Refusal.{Refusal}
 use Rattle.store.specs.Fault.{Fault}
 use Rattle.commands.specs.declared.told.CommandError.{CommandError}

@@ -1,8 +1,8 @@
 ghost use Rattle.std.specs.Prelude.{◌≡◌, ◌⊎◌, true, IfOk, IfErr, IfNone, IfSome, OnErr, OnOk};
 ghost use Rattle.std.specs.Io.KnownBytes.{Appends};
-ghost use Rattle.profile.specs.declared.rules.Rules.TheVariants.{Two};
-ghost use Rattle.profile.specs.Accepted.{is_command};
-ghost use Rattle.profile.specs.Register.{Enrol as Enrolment};
+ghost use Rattle.definitions.specs.Rules.{Today};
+ghost use Rattle.definitions.specs.Accepted.{is_command};
+ghost use Rattle.definitions.specs.Register.{Enrol as Enrolment};
 ghost use Rattle.store.specs.Asked.{asked};
 ghost use Rattle.store.specs.Runs.{told};
 ghost use Rattle.store.specs.Standing.{GoesOn};
@@ -110,9 +110,9 @@ pub fn ready_at<'a, R: FileSystem + TimeSource + AllocGlobal>(
     }
 }
 
-// Prints the text of a reply, and tells a refusal.
+/// Prints the text of a reply, and tells a refusal.
 #[tactic(auto, using(crate::proofs::TellingLaws::all_begun, crate::proofs::TellingLaws::appends_nothing))]
-fn tell_reply<W: Printer, E: Printer>(
+pub(crate) fn tell_reply<W: Printer, E: Printer>(
     alloc: Global,
     reply: &Reply,
     out: &mut W,
@@ -149,7 +149,7 @@ fn hand_in<K: Keeper, W: Printer, E: Printer>(
     out: &mut W,
     err: &mut E,
 ) -> Result<ExitStatus, CommandError>
-    requires { is_command Two (asked command.now) ≡ true }
+    requires { is_command Today (asked command.now) ≡ true }
 
     ensures answered { IsHandedIn (K.standing book.old) (K.standing book.new) (asked command.now)
         moment (W.contents out.old) (W.contents out.new) result }

@@ -8,10 +8,10 @@ ghost use Rattle.commands.specs.Stops.{fault_in, HasDeviceFault};
 use crate::files::{MOST_SHEET, read_within};
 use crate::told::CommandError;
 use command_line::{BookAct, ClerkWords, Endpoint, Show, Task};
+use definitions::{MOST_NUMBER, MOST_TICKET};
 use folders::{FileSystem, IntoStep, IntoStop, write_name};
 use intake::FolderStop;
 use itoa::Buffer;
-use profile::{MOST_NUMBER, MOST_TICKET};
 use sheet_texts::first_bad;
 use std::alloc::{AllocError, Global};
 use std::io;
@@ -323,19 +323,25 @@ fn bad_clerk_word<'a>(words: &ClerkWords<'a>) -> Option<BadWord<'a>> {
     }
 }
 
+// What a line would do to a book, done or tried.
+fn act_in<'t, 'a>(task: &'t Task<'a>) -> Option<&'t BookAct<'a>> {
+    match task {
+        Task::Act { act, .. } | Task::Try { act, .. } => Some(act),
+        _ => None,
+    }
+}
+
 // The first word of a line that can't be read; files aren't looked at.
 fn bad_word<'a>(task: &Task<'a>) -> Option<BadWord<'a>> {
     match task {
         Task::Init { who } | Task::HandOn { who, .. } => bad_partner(*who),
-        Task::Act { act, .. } => match act {
+        Task::Act { act, .. } | Task::Try { act, .. } => match act {
             BookAct::Enrol { who } => bad_partner(*who),
             BookAct::Clerk(words) => bad_clerk_word(words),
             _ => None,
         },
-        Task::Show(Show::Order { who, number }) => match bad_partner(*who) {
-            Some(bad) => Some(bad),
-            None => bad_ident(*number, MOST_NUMBER, NUMBER),
-        },
+        Task::Show(Show::Advice { who, number, .. } | Show::Order { who, number, .. }) =>
+            bad_partner(*who).or(bad_ident(*number, MOST_NUMBER, NUMBER)),
         Task::Show(Show::Stock { who, .. } | Show::Open { who } | Show::Outbox { who, .. }) => {
             bad_partner(*who)
         }
@@ -380,15 +386,9 @@ pub fn about_line<R: FileSystem + AllocGlobal>(
     if let Some(bad) = bad_word(task) {
         return Ok(Some(named(rt.alloc(), bad.word, bad.wanted)?));
     }
-    match task {
-        Task::Act {
-            act: BookAct::Clerk(words),
-            ..
-        } => about_sheet(rt, words, refusal),
-        Task::Act {
-            act: BookAct::Roster { file },
-            ..
-        } => Ok(Some(named(
+    match act_in(task) {
+        Some(BookAct::Clerk(words)) => about_sheet(rt, words, refusal),
+        Some(BookAct::Roster { file }) => Ok(Some(named(
             rt.alloc(),
             *file,
             ": a list is TOML with the key `depositors`, an array of names as \"ZZ-ACME\"",

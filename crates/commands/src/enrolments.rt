@@ -1,9 +1,9 @@
 //! Depositors of a list, enrolled one after the other.
 ghost use Rattle.std.specs.Io.KnownBytes.{Appends};
 ghost use Rattle.std.specs.Prelude.{◌≡◌, IfErr, IfNone, IfOk, IfSome, OnOk, OnErr};
-ghost use Rattle.profile.specs.declared.rules.Rules.TheVariants.{Two};
-ghost use Rattle.profile.specs.Accepted.{reply_to, after};
-ghost use Rattle.profile.specs.Register.{Enrol};
+ghost use Rattle.definitions.specs.Rules.{Today};
+ghost use Rattle.definitions.specs.Accepted.{reply_to, after};
+ghost use Rattle.definitions.specs.Register.{Enrol};
 ghost use Rattle.store.specs.Runs.{told};
 ghost use Rattle.store.specs.Standing.{IsUsable, KeepsLegal, GoesOn, LeavesEither, OfKept, OfUsable};
 ghost use Rattle.commands.specs.Enrolling.{AreEnrolled, AreEnrolledUntil, line_of};
@@ -64,20 +64,20 @@ fn enrol_one<K: Keeper, W: Printer>(
 ) -> Result<ExitStatus, CommandError>
     ensures says { OfKept (K.standing book.old) (K.standing book.new)
         (λ L. IfOk result (λ status. status ≡ status_of
-        (reply_to Two (K.standing book.old).warehouse L (Enrol who) moment))) }
+        (reply_to Today (K.standing book.old).warehouse L (Enrol who) moment))) }
     ensures printed { OfKept (K.standing book.old) (K.standing book.new)
         (λ L. OnOk result (Appends (W.contents out.old) (W.contents out.new)
-        (line_of who (reply_to Two (K.standing book.old).warehouse L (Enrol who) moment)))) }
+        (line_of who (reply_to Today (K.standing book.old).warehouse L (Enrol who) moment)))) }
     ensures done { OfUsable (K.standing book.old) (K.standing book.new)
         (λ L. OnOk result (IsUsable (K.standing book.new)
-        (after Two (K.standing book.old).warehouse L (Enrol who, moment)))) }
+        (after Today (K.standing book.old).warehouse L (Enrol who, moment)))) }
     ensures keeps { OfKept (K.standing book.old) (K.standing book.new)
         (λ L. OnOk result (KeepsLegal (K.standing book.new)
-        (after Two (K.standing book.old).warehouse L (Enrol who, moment)))) }
+        (after Today (K.standing book.old).warehouse L (Enrol who, moment)))) }
     ensures opened { OnOk result ((K.standing book.old).shut ≡ (K.standing book.new).shut) }
     ensures left { OfUsable (K.standing book.old) (K.standing book.new)
         (λ L. OnErr result (LeavesEither (K.standing book.new) L
-        (after Two (K.standing book.old).warehouse L (Enrol who, moment)))) }
+        (after Today (K.standing book.old).warehouse L (Enrol who, moment)))) }
     ensures stopped { IfErr result
         (IsStopped (K.standing book.old) (K.standing book.new) (Enrol who) moment (line_of who)
         (W.contents out.old) (W.contents out.new)) }

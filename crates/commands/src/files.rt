@@ -6,9 +6,9 @@ ghost use Rattle.commands.specs.Stops.{HasDeviceFault, IsUsageStop};
 
 use crate::causes::about_file;
 use crate::told::{CommandError, usage};
+use definitions::MOST_BYTES;
 use folders::FileSystem;
 use intake::read_first;
-use profile::MOST_BYTES;
 use std::alloc::Global;
 
 /// The most bytes of a sheet, as of an interchange: its 999 lines need fewer than 65,536.

@@ -1,6 +1,6 @@
 //! The documents that went out to a depositor, handed on: each is written to a file of a folder.
 ghost use Rattle.std.specs.Prelude.{◌≡◌, IfErr, IfOk};
-ghost use Rattle.profile.specs.Rows.{outbox_of};
+ghost use Rattle.definitions.specs.Rows.{outbox_of};
 ghost use Rattle.store.specs.Standing.{IsUnchanged, OfKept};
 ghost use Rattle.commands.specs.HandingOn as meant;
 ghost use Rattle.commands.specs.HandingOn.{AreLeft, IsRowLeft, LeavesAll};

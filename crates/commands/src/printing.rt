@@ -5,7 +5,7 @@ ghost use Rattle.std.specs.Io.KnownBytes.{Appends, WriteAppends};
 ghost use Rattle.commands.specs.Failures.{CountsIf, WasRefused};
 ghost use Rattle.commands.specs.Printing.{AppendsFront, joined};
 
-use gauges::Gauge;
+use counted_io::Gauge;
 use std::io::{self, Stderr, Stdout, Write};
 
 /// Standard output, standard error, and what else a command prints to.

@@ -2,8 +2,8 @@
 //! and what the book has of its pair.
 ghost use Rattle.std.specs.Io.KnownBytes.{Appends};
 ghost use Rattle.std.specs.Prelude.{◌≡◌, ◌++◌, false, List, Ok, IfErr, IfOk, OnOk, codes, count_by, find, is_some, option_copied};
-ghost use Rattle.profile.specs.declared.rules.Rules.TheVariants.{Two};
-ghost use Rattle.profile.specs.Means.{Line};
+ghost use Rattle.definitions.specs.Rules.{Today};
+ghost use Rattle.definitions.specs.Means.{Line};
 ghost use Rattle.sheet_texts.specs.Texts.{sheet_of_text};
 ghost use Rattle.store.specs.Standing.{IsUnchanged};
 ghost use Rattle.commands.specs.Failures.{IsDeviceBy, WasRefused};
@@ -209,7 +209,7 @@ pub fn reason(
     kept: &[KeptPair<'_>],
 ) -> Result<Option<String>, AllocError>
     ensures blamed { (sheet : List Line)
-        → sheet_of_text Two words.now.kind text.now ≡ Ok sheet
+        → sheet_of_text Today words.now.kind text.now ≡ Ok sheet
         → IfOk result (λ why. is_some why ≡ is_some (meant.blamed refusal kept.now sheet)) }
 {
     let Some(lines) = lines_in(alloc, words, text)? else {

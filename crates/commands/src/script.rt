@@ -1,114 +1,23 @@
 ghost use Rattle.std.specs.Prelude.{◌≡◌, [], ◌∷◌, ℕ, false, List, MatchOption, Ok, IfOk, IfErr, OnOk, filter, map};
-ghost use Rattle.profile.specs.Readings.{parts_at};
+ghost use Rattle.definitions.specs.Readings.{parts_at};
 ghost use Rattle.store.specs.Standing.{GoesOn, IsUnchanged};
-ghost use Rattle.commands.specs.Files.{IsWithin};
-ghost use Rattle.commands.specs.Looking.{IsLineDone, IsView};
 ghost use Rattle.commands.specs.Playing.{asks, asking, rows_left, IsRowAnswered, IsRowStopped, HasPlayed, HasStopped};
-ghost use Rattle.commands.specs.Readying.{IsChange};
-ghost use Rattle.commands.specs.Saying.{AreRowsSaid, IsLineSaid, IsRowSaid, IsTaskSaid};
-ghost use Rattle.commands.specs.Scripts.{CanMakeBook, IsMadeBy, IsScriptDone, IsScriptStopped, IsUnnamed};
+ghost use Rattle.commands.specs.Saying.{AreRowsSaid, IsRowSaid};
+ghost use Rattle.commands.specs.Scripts.{CanMakeBook, IsMadeBy, IsScriptDone, IsScriptRun, IsScriptStopped, IsUnnamed};
 
-use crate::acts::{perform, ready_at};
 use crate::clock::TimeSource;
-use crate::files::{MOST_SCRIPT, read_lines};
+use crate::files::read_lines;
 use crate::printing::Printer;
 use crate::reasons::{tell_reason, tell_unready};
-use crate::shows::{ask, show};
 use crate::slips::slip_of;
+use crate::tasks::{answer, no_line};
 use crate::told::{CommandError, ExitStatus, usage};
 use crate::verbosity::Verbosity;
-use command_line::{BookAct, Place, Show, Task, Words, line};
+use command_line::{BookAct, Place, Task, Words, line};
 use folders::FileSystem;
 use std::alloc::{AllocError, Global};
 use std::io;
-use store::{Fault, Keeper, Moment, Refusal, ReplayBook, Warehouse, Who};
-
-// Changes the book as a line says.
-fn change<
-    R: FileSystem + TimeSource + AllocGlobal + Clone + Drop,
-    K: Keeper,
-    W: Printer,
-    E: Printer,
->(
-    rt: &R,
-    book: &mut K,
-    task: &Task<'_>,
-    act: &BookAct<'_>,
-    at: Option<Moment>,
-    verbosity: Verbosity,
-    out: &mut W,
-    err: &mut E,
-) -> Result<ExitStatus, CommandError>
-    ensures changed { IsChange (K.standing book.old) (K.standing book.new) act.now at
-        (W.contents out.old) (W.contents out.new) result }
-    ensures said { verbosity.explains ≡ false → OnOk result (IsTaskSaid (R.reads rt.now)
-        (K.standing book.old) (K.standing book.new) (E.contents err.old) (E.contents err.new)
-        result (Task.Act act.now at)) }
-    ensures goes { GoesOn (K.standing book.old) (K.standing book.new) }
-{
-    match ready_at(rt, act, at)? {
-        Ok(made) => perform(rt, book, &made.0, made.1, verbosity, out, err),
-        Err(refusal) => tell_unready(rt, task, refusal, verbosity, err),
-    }
-}
-
-// Shows of the book what a line asks for.
-fn look<R: FileSystem + AllocGlobal, K: Keeper, W: Printer, E: Printer>(
-    rt: &R,
-    book: &mut K,
-    task: &Task<'_>,
-    what: &Show<'_>,
-    verbosity: Verbosity,
-    out: &mut W,
-    err: &mut E,
-) -> Result<ExitStatus, CommandError>
-    ensures viewed { IsView (K.standing book.old) (K.standing book.new) what.now
-        (W.contents out.old) (W.contents out.new) result }
-    ensures said { verbosity.explains ≡ false → OnOk result (IsTaskSaid (R.reads rt.now)
-        (K.standing book.old) (K.standing book.new) (E.contents err.old) (E.contents err.new)
-        result (Task.Show what.now)) }
-    ensures goes { GoesOn (K.standing book.old) (K.standing book.new) }
-{
-    match ask(what) {
-        Ok(asked) => show(rt.alloc(), book, &asked, out, err),
-        Err(refusal) => tell_unready(rt, task, refusal, verbosity, err),
-    }
-}
-
-// Does what a line asks for, over the book.
-fn answer<
-    R: FileSystem + TimeSource + AllocGlobal + Clone + Drop,
-    K: Keeper,
-    W: Printer,
-    E: Printer,
->(
-    rt: &R,
-    book: &mut K,
-    words: &Words<'_>,
-    verbosity: Verbosity,
-    out: &mut W,
-    err: &mut E,
-) -> Result<ExitStatus, CommandError>
-    ensures answered { IsLineDone (K.standing book.old) (K.standing book.new) words.now
-        (W.contents out.old) (W.contents out.new) result }
-    ensures said { verbosity.explains ≡ false → IsLineSaid (R.reads rt.now)
-        (K.standing book.old) (K.standing book.new) (E.contents err.old) (E.contents err.new)
-        result words.now }
-    ensures goes { GoesOn (K.standing book.old) (K.standing book.new) }
-{
-    let Words::Over { task, .. } = words else {
-        return Err(no_line(rt.alloc()));
-    };
-    match task {
-        Task::Act { act, at } => change(rt, book, task, act, *at, verbosity, out, err),
-        Task::Show(what) => look(rt, book, task, what, verbosity, out, err),
-        Task::HandOn { .. } => Err(usage(
-            rt.alloc(),
-            "--into stands in no line of a script or a batch\n",
-        )),
-        _ => Err(no_line(rt.alloc())),
-    }
-}
+use store::{Fault, Keeper, Refusal, ReplayBook, Warehouse, Who};
 
 // Tells why the book refused what a clerk's line says, where a line of the sheet is the reason.
 fn tell_why<R: FileSystem + AllocGlobal, K: Keeper, E: io::Write>(
@@ -121,6 +30,10 @@ fn tell_why<R: FileSystem + AllocGlobal, K: Keeper, E: io::Write>(
 {
     let Words::Over {
         task: Task::Act {
+            act: BookAct::Clerk(clerk),
+            ..
+        }
+        | Task::Try {
             act: BookAct::Clerk(clerk),
             ..
         },
@@ -157,10 +70,10 @@ fn answer_row<
     out: &mut W,
     err: &mut E,
 ) -> Result<ExitStatus, CommandError>
-    ensures answered { IfOk result (λ status. IsRowAnswered K.standing book.old book.new row.now
-        (W.contents out.old) (W.contents out.new) (Ok status)) }
+    ensures answered { IfOk result (λ status. IsRowAnswered (R.reads rt.now) K.standing book.old
+        book.new row.now (W.contents out.old) (W.contents out.new) (Ok status)) }
     ensures stopped { IfErr result
-        (λ stop. IsRowStopped K.standing W.contents book.old out.old row.now
+        (λ stop. IsRowStopped (R.reads rt.now) K.standing W.contents book.old out.old row.now
         book.new out.new stop) }
     ensures said { verbosity.explains ≡ false → OnOk result (IsRowSaid (R.reads rt.now) K.standing
         (book.old, E.contents err.old) row.now (book.new, E.contents err.new)) }
@@ -230,10 +143,10 @@ fn play_from<
     out: &mut W,
     err: &mut E,
 ) -> Result<ExitStatus, CommandError>
-    ensures played { IfOk result (λ status. HasPlayed K.standing W.contents
+    ensures played { IfOk result (λ status. HasPlayed (R.reads rt.now) K.standing W.contents
         (book.old, (out.old, ExitStatus.Done)) (filter asks (rows_left text.entry))
         (book.new, (out.new, status))) }
-    ensures stopped { IfErr result (λ stop. HasStopped K.standing W.contents
+    ensures stopped { IfErr result (λ stop. HasStopped (R.reads rt.now) K.standing W.contents
         (book.old, (out.old, ExitStatus.Done)) (filter asks (rows_left text.entry)) book.new out.new
         stop) }
     ensures said { verbosity.explains ≡ false → OnOk result (AreRowsSaid (R.reads rt.now)
@@ -281,9 +194,9 @@ pub fn play_over<
     out: &mut W,
     err: &mut E,
 ) -> Result<ExitStatus, CommandError>
-    ensures played { IfOk result (λ status. HasPlayed K.standing W.contents
+    ensures played { IfOk result (λ status. HasPlayed (R.reads rt.now) K.standing W.contents
         (book.old, (out.old, ExitStatus.Done)) (asking text.now) (book.new, (out.new, status))) }
-    ensures stopped { IfErr result (λ stop. HasStopped K.standing W.contents
+    ensures stopped { IfErr result (λ stop. HasStopped (R.reads rt.now) K.standing W.contents
         (book.old, (out.old, ExitStatus.Done)) (asking text.now) book.new out.new stop) }
     ensures said { verbosity.explains ≡ false → OnOk result (AreRowsSaid (R.reads rt.now)
         K.standing (book.old, E.contents err.old) (asking text.now)
@@ -291,11 +204,6 @@ pub fn play_over<
     ensures goes { GoesOn (K.standing book.old) (K.standing book.new) }
 {
     play_from(rt, book, Some(text), 0, true, verbosity, out, err)
-}
-
-// What a line is that a book that is there can't do.
-fn no_line(alloc: Global) -> CommandError {
-    usage(alloc, "init makes a book, and here is one\n")
 }
 
 // The book that the first row makes; None where its name is refused.
@@ -355,10 +263,10 @@ fn play<R: FileSystem + TimeSource + AllocGlobal + Clone + Drop, W: Printer, E: 
     out: &mut W,
     err: &mut E,
 ) -> Result<ExitStatus, CommandError>
-    ensures done { IfOk result (IsScriptDone ⟦<ReplayBook as Keeper>⟧.standing W.contents
-        (asking text.now) out.old out.new) }
-    ensures stopped { IfErr result (IsScriptStopped ⟦<ReplayBook as Keeper>⟧.standing W.contents
-        (asking text.now) out.old out.new) }
+    ensures done { IfOk result (IsScriptDone (R.reads rt.now) ⟦<ReplayBook as Keeper>⟧.standing
+        W.contents (asking text.now) out.old out.new) }
+    ensures stopped { IfErr result (IsScriptStopped (R.reads rt.now)
+        ⟦<ReplayBook as Keeper>⟧.standing W.contents (asking text.now) out.old out.new) }
 {
     let Some((i, row, rest)) = opening_row(text) else {
         return Err(usage(rt.alloc(), "a script begins with init\n"));
@@ -390,10 +298,7 @@ pub fn run_script<R: FileSystem + TimeSource + AllocGlobal + Clone + Drop, W: Pr
     out: &mut W,
     err: &mut E,
 ) -> Result<ExitStatus, CommandError>
-    ensures { IfOk result (λ status. (text : List ℕ)
-        × IsWithin (R.reads rt.now) file.now MOST_SCRIPT text
-        × IsScriptDone ⟦<ReplayBook as Keeper>⟧.standing W.contents (asking text) out.old out.new
-        status) }
+    ensures { IsScriptRun (R.reads rt.now) W.contents file.now out.old out.new result }
 {
     let text = read_lines(rt, file)?;
     play(rt, &text, verbosity, out, err)

@@ -44,7 +44,7 @@ fn audience_of(clerks: bool) -> Audience
     if clerks {
         Audience::Clerks
     } else {
-        Audience::Partners
+        Audience::Testers
     }
 }
 

@@ -1,23 +1,24 @@
 //! What is shown of a book, which stays as it is.
 ghost use Rattle.std.specs.Prelude.{◌≡◌, false, Some, IfErr, IfOk, OnErr, option_map};
-ghost use Rattle.profile.specs.Decision.{standing as history_of};
-ghost use Rattle.profile.specs.Header.{who_of};
-ghost use Rattle.profile.specs.Register.{own};
-ghost use Rattle.profile.specs.Rows.{stock_of, outbox_of};
+ghost use Rattle.definitions.specs.Decision.{standing as history_of};
+ghost use Rattle.definitions.specs.Header.{who_of};
+ghost use Rattle.definitions.specs.Register.{own};
+ghost use Rattle.definitions.specs.Rows.{stock_of, outbox_of};
 ghost use Rattle.store.specs.Open.{open_of, enrolled};
 ghost use Rattle.store.specs.Sent.{text_of};
 ghost use Rattle.commands.specs.Looking.{IsAskedFor, IsLook, asked_for, is_readable};
 ghost use Rattle.commands.specs.Failures.{IsDeviceBy, WasEitherRefused, WasRefused};
 ghost use Rattle.commands.specs.Printing.{AppendsFront};
-ghost use Rattle.commands.specs.Refused.{IsLookSaid, IsWhySaid, refused_order, refused_stranger};
+ghost use Rattle.commands.specs.Refused.{IsLookSaid, IsWhySaid, refused_advice, refused_order, refused_stranger};
 ghost use Rattle.commands.specs.Stops.{IsDeviceStop};
-ghost use Rattle.commands.specs.Shown.{IsLookAt, IsShown, shown_stock, shown_open, shown_list, shown_text, shown_order, shown_depositors};
+ghost use Rattle.commands.specs.Shown.{IsLookAt, IsShown, shown_stock, shown_open, shown_list, shown_text, shown_advice, shown_order, shown_depositors};
 
+use crate::dock_sheets::{picking_text, receiving_text};
 use crate::printing::{Printer, print};
 use crate::told::{CommandError, ExitStatus, tell_refusal, tell_text};
 use command_line::Show;
 use intake::owner;
-use reports::{depositor_list, open_report, outbox_list, pick_list, stock_text};
+use reports::{depositor_list, need_of_advice, open_report, outbox_list, stock_text};
 use std::alloc::Global;
 use store::{Keeper, Need, Refusal, Who};
 
@@ -28,8 +29,10 @@ pub enum Look<'a> {
     Stock(Who, bool),
     /// What a depositor has open.
     Open(Who),
-    /// The picking sheet of a depositor's order, by its number.
-    Order(Who, &'a str),
+    /// The receiving sheet of a depositor's advice, by its number, as CSV or not.
+    Advice(Who, &'a str, bool),
+    /// The picking sheet of a depositor's order, by its number, as CSV or not.
+    Order(Who, &'a str, bool),
     /// What went out to a depositor: the text of this number, or the list.
     Outbox(Who, Option<u32>),
     /// Who is enrolled.
@@ -50,9 +53,23 @@ fn read<'a>(show: &Show<'a>) -> Option<Look<'a>>
     match show {
         Show::Stock { who, is_csv } => Some(Look::Stock(named(*who)?, *is_csv)),
         Show::Open { who } => Some(Look::Open(named(*who)?)),
-        Show::Order { who, number } => Some(Look::Order(
+        Show::Advice {
+            who,
+            number,
+            is_csv,
+        } => Some(Look::Advice(
             owner((*who).as_bytes(), (*number).as_bytes())?,
             *number,
+            *is_csv,
+        )),
+        Show::Order {
+            who,
+            number,
+            is_csv,
+        } => Some(Look::Order(
+            owner((*who).as_bytes(), (*number).as_bytes())?,
+            *number,
+            *is_csv,
         )),
         Show::Outbox { who, number } => Some(Look::Outbox(named(*who)?, *number)),
         Show::Depositors => Some(Look::Depositors),
@@ -127,6 +144,40 @@ fn open<K: Keeper, W: Printer, E: Printer>(
     }
 }
 
+// Prints the receiving sheet of an advice. Refused are 20, an unknown depositor, 22, an unknown
+// advice, and 23, one that was counted.
+#[tactic(auto, using(crate::proofs::TellingLaws::appends_nothing))]
+fn advice<K: Keeper, W: Printer, E: Printer>(
+    alloc: Global,
+    book: &mut K,
+    who: Who,
+    number: &str,
+    is_csv: bool,
+    out: &mut W,
+    err: &mut E,
+) -> Result<ExitStatus, CommandError>
+    ensures looked { IsLookAt (K.standing book.old) (K.standing book.new)
+        (λ L. shown_advice is_csv number.now (history_of (own L who)))
+        (W.contents out.old) (W.contents out.new) result }
+    ensures said { IsWhySaid (K.standing book.old) (K.standing book.new)
+        (λ L. refused_advice is_csv number.now (history_of (own L who)))
+        (E.contents err.old) (E.contents err.new) result }
+    ensures caused { IfErr result (IsDeviceBy (WasEitherRefused (W.failures out.old)
+        (W.failures out.new) (E.failures err.old) (E.failures err.new))) }
+{
+    let need = need_of_advice(alloc, number.as_bytes())?;
+    let Some(page) = book.load(who, &need)? else {
+        return tell_refusal(alloc, err, Refusal::UnknownDepositor);
+    };
+    match receiving_text(alloc, &page, number.as_bytes(), is_csv)? {
+        Ok(sheet) => {
+            print(out, &sheet)?;
+            Ok(ExitStatus::Done)
+        }
+        Err(refusal) => tell_refusal(alloc, err, refusal),
+    }
+}
+
 // Prints the picking sheet of an order. Refused are 20, an unknown depositor, 24, an unknown order,
 // and 25, an order that was picked.
 #[tactic(auto, using(crate::proofs::TellingLaws::appends_nothing))]
@@ -135,14 +186,15 @@ fn order<K: Keeper, W: Printer, E: Printer>(
     book: &mut K,
     who: Who,
     number: &str,
+    is_csv: bool,
     out: &mut W,
     err: &mut E,
 ) -> Result<ExitStatus, CommandError>
     ensures looked { IsLookAt (K.standing book.old) (K.standing book.new)
-        (λ L. shown_order number.now (history_of (own L who)))
+        (λ L. shown_order is_csv number.now (history_of (own L who)))
         (W.contents out.old) (W.contents out.new) result }
     ensures said { IsWhySaid (K.standing book.old) (K.standing book.new)
-        (λ L. refused_order number.now (history_of (own L who)))
+        (λ L. refused_order is_csv number.now (history_of (own L who)))
         (E.contents err.old) (E.contents err.new) result }
     ensures caused { IfErr result (IsDeviceBy (WasEitherRefused (W.failures out.old)
         (W.failures out.new) (E.failures err.old) (E.failures err.new))) }
@@ -151,7 +203,7 @@ fn order<K: Keeper, W: Printer, E: Printer>(
     let Some(page) = book.load(who, &need)? else {
         return tell_refusal(alloc, err, Refusal::UnknownDepositor);
     };
-    match pick_list(alloc, &page, number.as_bytes())? {
+    match picking_text(alloc, &page, number.as_bytes(), is_csv)? {
         Ok(sheet) => {
             print(out, &sheet)?;
             Ok(ExitStatus::Done)
@@ -251,9 +303,9 @@ fn depositors<K: Keeper, W: Printer>(
     Ok(ExitStatus::Done)
 }
 
-/// Shows of a book what is asked for. Refused are 20, an unknown depositor, and of a picking sheet
-/// 24, an unknown order, and 25, one that was picked; a number without a text is told by the status
-/// alone.
+/// Shows of a book what is asked for. Refused are 20, an unknown depositor, of a receiving sheet
+/// 22, an unknown advice, and 23, one that was counted, and of a picking sheet 24, an unknown
+/// order, and 25, one that was picked; a number without a text is told by the status alone.
 pub fn show<K: Keeper, W: Printer, E: Printer>(
     alloc: Global,
     book: &mut K,
@@ -271,7 +323,8 @@ pub fn show<K: Keeper, W: Printer, E: Printer>(
     match *asked {
         Look::Stock(who, is_csv) => stock(alloc, book, who, is_csv, out, err),
         Look::Open(who) => open(alloc, book, who, out, err),
-        Look::Order(who, number) => order(alloc, book, who, number, out, err),
+        Look::Advice(who, number, is_csv) => advice(alloc, book, who, number, is_csv, out, err),
+        Look::Order(who, number, is_csv) => order(alloc, book, who, number, is_csv, out, err),
         Look::Outbox(who, None) => outbox(alloc, book, who, out, err),
         Look::Outbox(who, Some(number)) => content(alloc, book, who, number, out, err),
         Look::Depositors => depositors(alloc, book, out),

@@ -1,10 +1,10 @@
 //! What clerks did, with their sheets.
 ghost use Rattle.std.specs.Prelude.{◌≡◌, List, true, IsTrue, None, Some, Ok, Err, IfErr, IfNone, IfOk, IfSome, option_map};
-ghost use Rattle.profile.specs.declared.rules.Rules.TheVariants.{Two};
-ghost use Rattle.profile.specs.Accepted.{is_command};
-ghost use Rattle.profile.specs.Clerk.{is_sheet};
-ghost use Rattle.profile.specs.Header.{Who as Partner};
-ghost use Rattle.profile.specs.Means.{Line};
+ghost use Rattle.definitions.specs.Rules.{Today};
+ghost use Rattle.definitions.specs.Accepted.{is_command};
+ghost use Rattle.definitions.specs.Clerk.{is_sheet};
+ghost use Rattle.definitions.specs.Header.{Who as Partner};
+ghost use Rattle.definitions.specs.Means.{Line};
 ghost use Rattle.sheet_texts.specs.Texts.{sheet_of_text};
 ghost use Rattle.store.specs.Asked.{asked};
 ghost use Rattle.commands.specs.Clerks as meant;
@@ -29,7 +29,7 @@ pub struct Slip<'a> {
     pub(crate) words: ClerkWords<'a>,
     pub(crate) text: Vec<u8>,
     pub(crate) sheet: Sheet,
-    pub ghost given: { IsTrue (is_command Two (command_of who words sheet)) },
+    pub ghost given: { IsTrue (is_command Today (command_of who words sheet)) },
 }
 
 // A depositor that a clerk's words name, and what was read of the file with their sheet.
@@ -91,7 +91,7 @@ fn sheet_of(
     ensures ok { IfOk result
         (λ made. IfOk made (λ sheet. sheet_read kind text.now ≡ Ok sheet)) }
     ensures kind { IfOk result
-        (λ made. IfOk made (λ sheet. is_sheet Two kind sheet ≡ true)) }
+        (λ made. IfOk made (λ sheet. is_sheet Today kind sheet ≡ true)) }
     ensures err { IfOk result
         (λ made. IfErr made (λ refusal. sheet_read kind text.now ≡ Err refusal)) }
 {
@@ -197,7 +197,7 @@ pub(crate) fn lines_in(
     text: &[u8],
 ) -> Result<Option<Vec<Goods>>, AllocError>
     ensures { (sheet : List Line)
-        → sheet_of_text Two words.now.kind text.now ≡ Ok sheet
+        → sheet_of_text Today words.now.kind text.now ≡ Ok sheet
         → IfOk result (λ found. option_map (λ lines. lines.items) found ≡ Some sheet) }
 {
     match sheet(alloc, words.kind, text)? {
@@ -209,7 +209,7 @@ pub(crate) fn lines_in(
 /// What a clerk did, as a command.
 pub fn clerk<'a>(slip: &'a Slip<'_>) -> Command<'a>
     ensures told { asked result ≡ command_of slip.now.who slip.now.words slip.now.sheet }
-    ensures given { is_command Two (asked result) ≡ true }
+    ensures given { is_command Today (asked result) ≡ true }
 {
     let words = &slip.words;
     Command::Clerk {

@@ -4,8 +4,8 @@ use Rattle.std.specs.Prelude.{Option, option_map, not, count_by, find, filter, c
 use Rattle.std.specs.List.{position_or_len, list_any, list_all, before_first, after_first}
 use Rattle.std.proofs.lemmas.List.{take-map, drop-map, length-map, length-take-le}
 use Rattle.std.proofs.lemmas.List.Folds.{fold-map}
-use Rattle.profile.specs.Lists.{Parted, parted, part_with}
-use Rattle.profile.specs.Cut.{Segment, Piece, has_id, segments_of}
+use Rattle.definitions.specs.Lists.{Parted, parted, part_with}
+use Rattle.definitions.specs.Cut.{Segment, Piece, has_id, segments_of}
 use Rattle.envelope.proofs.Runs.{front_is, within}
 use Rattle.envelope.specs.Parts.{marked, bare}
 

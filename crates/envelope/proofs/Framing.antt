@@ -3,10 +3,10 @@ use Rattle.std.proofs.Common.{◌≡◌, ℕ, zero, suc, ◌+◌, ◌<◌, Bool,
 use Rattle.std.specs.Prelude.{if◌then◌else◌, codes, bytes_eq}
 use Rattle.std.specs.List.{position_or_len, list_any}
 use Rattle.std.proofs.lemmas.Slice.Eq.{bytes_eq-Decides}
-use Rattle.profile.specs.Limits.{most_bytes}
-use Rattle.profile.specs.Bytes.{Delims}
-use Rattle.profile.specs.Cut.{Segment, Piece, AreOf, id_of, has_id, segments_of}
-use Rattle.profile.specs.Structure.{Set, set_of}
+use Rattle.definitions.specs.Limits.{most_bytes}
+use Rattle.definitions.specs.Bytes.{Delims}
+use Rattle.definitions.specs.Cut.{Segment, Piece, AreOf, id_of, has_id, segments_of}
+use Rattle.definitions.specs.Structure.{Set, set_of}
 use Rattle.envelope.proofs.Bared.{through_bare}
 use Rattle.envelope.specs.Parts.{IsFramed, AreKept, marked, bare}
 

@@ -2,10 +2,10 @@
 use Rattle.std.proofs.Common.{◌≡◌, ℕ, Bool, true, false, List, [], ◌∷◌, map, refl, sym, ◌∙◌, subst, ap, Some}
 use Rattle.std.specs.Prelude.{codes, cond, find, Option, option_map}
 use Rattle.std.specs.List.{before_first}
-use Rattle.profile.specs.Bytes.{Delims}
-use Rattle.profile.specs.Lists.{parted}
-use Rattle.profile.specs.Cut.{Segment, Piece, AreOf, has_id, segments_of}
-use Rattle.profile.specs.Structure.{Set, Group, set_of, group_of}
+use Rattle.definitions.specs.Bytes.{Delims}
+use Rattle.definitions.specs.Lists.{parted}
+use Rattle.definitions.specs.Cut.{Segment, Piece, AreOf, has_id, segments_of}
+use Rattle.definitions.specs.Structure.{Set, Group, set_of, group_of}
 use Rattle.envelope.proofs.Bared.{find_bare, runs_bare}
 use Rattle.envelope.specs.Parts.{SetOf, GroupOf, AreHeld, piece, set_under, group_under, marked, bare}
 

@@ -3,10 +3,10 @@ use Rattle.std.proofs.Common.{◌≡◌, ℕ, ◌≤◌, Bool, true, false, not,
 use Rattle.std.specs.Prelude.{◌||◌, ◌&&◌, if◌then◌else◌, nat_lt, nat_le, slice_index, ◌==◌, codes, bytes_eq}
 use Rattle.std.specs.List.{list_all, range_with_len}
 use Rattle.std.proofs.lemmas.Bool.Decides.{nat_tests}
-use Rattle.profile.specs.declared.widths.TheConstants.{ISA_BYTES}
-use Rattle.profile.specs.Bytes.{Delims, is_data, is_digit}
-use Rattle.profile.specs.Limits.{most_bytes}
-use Rattle.profile.specs.Header.{isa, is_legible, separator_offsets, delims_in, delims_of, are_delimiters, is_unreadable}
+use Rattle.definitions.specs.declared.widths.TheConstants.{ISA_BYTES}
+use Rattle.definitions.specs.Bytes.{Delims, is_data, is_digit}
+use Rattle.definitions.specs.Limits.{most_bytes}
+use Rattle.definitions.specs.Header.{isa, is_legible, separator_offsets, delims_in, delims_of, are_delimiters, is_unreadable}
 use Rattle.envelope.specs.Legibility.{is_begun, is_filled}
 
 or_parts : (a b c d e f g h : Bool) → (a || b || c || d || not e || not f || not g || not h) ≡ (not (not (a || b || c)) || (d || not (e && f && g && h)))

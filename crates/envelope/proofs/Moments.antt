@@ -3,9 +3,9 @@ use Rattle.std.proofs.Common.{◌≡◌, ℕ, arith, Bool, true, false, not, Lis
 use Rattle.std.specs.Prelude.{if◌then◌else◌, is_none, is_some, ◌&&◌, codes, ◌++◌, Option, drop, nat_lt}
 use Rattle.std.specs.List.{list_all}
 use Rattle.std.proofs.lemmas.List.{take_all}
-use Rattle.profile.specs.Bytes.{Delims, is_digit, value}
-use Rattle.profile.specs.Elements.{element_fault, must, Date, Time}
-use Rattle.profile.specs.Moments.{is_date, is_clock, is_day}
+use Rattle.definitions.specs.Bytes.{Delims, is_digit, value}
+use Rattle.definitions.specs.Elements.{element_fault, must, Date, Time}
+use Rattle.definitions.specs.Moments.{is_date, is_clock, is_day}
 
 by_parts : (digits day : Bool) → is_none {T = ℕ} (if not digits then Some 6 else (if digits && day then None else Some 8)) ≡ (digits && day)
 by_parts false day = refl

@@ -4,13 +4,13 @@ use Rattle.std.specs.Prelude.{Option, if◌then◌else◌, nat_lt, ◌||◌, ◌
 use Rattle.std.proofs.lemmas.List.{length-map}
 use Rattle.std.proofs.lemmas.List.Folds.{fold-map}
 use Rattle.std.specs.List.{list_any, list_all}
-use Rattle.profile.specs.Bytes.{Delims, value}
-use Rattle.profile.specs.Cut.{cut, Segment, element, has_id, id_of, last_segment}
-use Rattle.profile.specs.Elements.{is_well_formed}
-use Rattle.profile.specs.Halt.{structure_note, is_trailer_wrong, is_content_invalid, is_segment_id}
-use Rattle.profile.specs.Header.{delims_of, isa}
-use Rattle.profile.specs.Structure.{Group, groups_of, is_in_place}
-use Rattle.profile.specs.Limits.{most_groups, most_sets}
+use Rattle.definitions.specs.Bytes.{Delims, value}
+use Rattle.definitions.specs.Cut.{cut, Segment, element, has_id, id_of, last_segment}
+use Rattle.definitions.specs.Elements.{is_well_formed}
+use Rattle.definitions.specs.Halt.{structure_note, is_trailer_wrong, is_content_invalid, is_segment_id}
+use Rattle.definitions.specs.Header.{delims_of, isa}
+use Rattle.definitions.specs.Structure.{Group, groups_of, is_in_place}
+use Rattle.definitions.specs.Limits.{most_groups, most_sets}
 use Rattle.envelope.specs.Parts.{GroupOf, GroupsOf, group_under}
 use Rattle.envelope.specs.Conditions.{trailer_note, are_segments_invalid, are_groups_invalid, are_held_invalid}
 

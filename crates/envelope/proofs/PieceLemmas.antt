@@ -1,8 +1,8 @@
 -- The pieces of a text.
 use Rattle.std.proofs.Common.{◌≡◌, ℕ, ◌≤◌, suc, Bool, false, List, [], ◌∷◌, length, refl, sym, ◌∙◌, ap, arith, subst, map}
 use Rattle.std.proofs.lemmas.List.{length-map}
-use Rattle.profile.specs.Bytes.{Delims}
-use Rattle.profile.specs.Cut.{Segment, Piece, Pieces, Role, Skipped, Ends, Inside, AreOf, cut, elements, onto, put, role, is_outside, pieces_from, pieces_left, segments_of}
+use Rattle.definitions.specs.Bytes.{Delims}
+use Rattle.definitions.specs.Cut.{Segment, Piece, Pieces, Role, Skipped, Ends, Inside, AreOf, cut, elements, onto, put, role, is_outside, pieces_from, pieces_left, segments_of}
 use Rattle.envelope.specs.Parts.{piece}
 
 elements_again : (d : Delims) (ss : List Segment) → segments_of (map (piece d) ss) ≡ ss

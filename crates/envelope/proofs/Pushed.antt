@@ -1,8 +1,8 @@
 -- A loop that pushes what it makes: what is made and what is left are the whole.
 use Rattle.std.proofs.Common.{◌≡◌, ℕ, ◌+◌, ◌<◌, List, [], ◌∷◌, ◌++◌, map, length, get_or, take, drop, sym, ◌∙◌, ap, append_assoc, zero, suc, arith}
 use Rattle.std.proofs.lemmas.List.{append-nil}
-use Rattle.profile.specs.Bytes.{Delims}
-use Rattle.profile.specs.Cut.{Piece, AreOf}
+use Rattle.definitions.specs.Bytes.{Delims}
+use Rattle.definitions.specs.Cut.{Piece, AreOf}
 use Rattle.envelope.proofs.Framing.{take_of}
 
 pub pushed : {X : Type 0} (made now left rest whole : List X) (x : X) → now ≡ made ++ x ∷ [] → left ≡ x ∷ rest → made ++ left ≡ whole → now ++ rest ≡ whole

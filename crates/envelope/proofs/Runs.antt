@@ -6,7 +6,7 @@ use Rattle.std.proofs.lemmas.Option.{cond_some}
 use Rattle.std.proofs.lemmas.List.{take_all, nil_from_length, drop-drop}
 use Rattle.std.proofs.lemmas.List.Sums.{prefix_len-le-length}
 use borrow.Author.Tests.{ltb-false, ltb-true}
-use Rattle.profile.specs.Lists.{parted}
+use Rattle.definitions.specs.Lists.{parted}
 
 pub within : {X : Type 0} (p : X → Bool) (xs : List X) → position_or_len p xs ≤ length xs
 within p xs = prefix_len-le-length (λ x. not (p x)) xs

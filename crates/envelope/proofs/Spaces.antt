@@ -6,8 +6,8 @@ use Rattle.std.specs.Bool.{Decides}
 use Rattle.std.proofs.lemmas.List.{drop-replicate}
 use Rattle.std.proofs.lemmas.Slice.Eq.{bytes_eq-Decides}
 use Rattle.std.proofs.Math.Seq.{take-suc}
-use Rattle.profile.specs.Bytes.{is_space, stripped, padded}
-use Rattle.profile.specs.Limits.{most_partner}
+use Rattle.definitions.specs.Bytes.{is_space, stripped, padded}
+use Rattle.definitions.specs.Limits.{most_partner}
 
 all_spaces_last : (xs : List ℕ) → list_all is_space (xs ++ 32 ∷ []) ≡ list_all is_space xs
 all_spaces_last [] = refl

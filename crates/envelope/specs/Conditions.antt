@@ -1,15 +1,15 @@
 -- The notes as the program tells them.
 use Rattle.std.specs.Prelude.{◌≡◌, ℕ, Bool, not, ◌||◌, ◌==◌, List, [], ◌∷◌, ◌++◌, map, length, if◌then◌else◌, nat_lt, count_by, sum_by, Option, Some, None, codes, bytes_eq}
 use Rattle.std.specs.List.{list_any, list_all}
-use Rattle.profile.specs.Limits.{most_groups, most_sets}
-use Rattle.profile.specs.Bytes.{Delims, is_one_of, value}
-use Rattle.profile.specs.Lists.{first_of}
-use Rattle.profile.specs.Moments.{is_date, is_clock}
-use Rattle.profile.specs.Header.{isa}
-use Rattle.profile.specs.Cut.{Segment, element, id_of, has_id, last_segment}
-use Rattle.profile.specs.Elements.{is_well_formed}
-use Rattle.profile.specs.Structure.{Group, is_in_place}
-use Rattle.profile.specs.Halt.{structure_note, is_trailer_wrong, is_segment_id}
+use Rattle.definitions.specs.Limits.{most_groups, most_sets}
+use Rattle.definitions.specs.Bytes.{Delims, is_one_of, value}
+use Rattle.definitions.specs.Lists.{first_of}
+use Rattle.definitions.specs.Moments.{is_date, is_clock}
+use Rattle.definitions.specs.Header.{isa}
+use Rattle.definitions.specs.Cut.{Segment, element, id_of, has_id, last_segment}
+use Rattle.definitions.specs.Elements.{is_well_formed}
+use Rattle.definitions.specs.Structure.{Group, is_in_place}
+use Rattle.definitions.specs.Halt.{structure_note, is_trailer_wrong, is_segment_id}
 use Rattle.envelope.specs.Parts.{GroupOf}
 use Rattle.envelope.specs.declared.halt.Halt.{Halt}
 use Rattle.envelope.specs.declared.halt.Halt.TheVariants.{Note, OutOfMemory}

@@ -1,10 +1,10 @@
 -- The two notes that this crate tells decide the end of the Halt definition's conditions.
 use Rattle.std.specs.Prelude.{◌≡◌, ℕ, Bool, true, false, List, [], ◌∷◌, ◌++◌, map, refl, if◌then◌else◌, Option, Some, None, option_map}
 use Rattle.std.proofs.Common.{ap, ◌∙◌}
-use Rattle.profile.specs.Lists.{first_of, or_else}
-use Rattle.profile.specs.Header.{Who}
-use Rattle.profile.specs.declared.refusals.Refusal.TheVariants.{Note}
-use Rattle.profile.specs.Halt.{Halt, Refuses, header_notes, structure_notes, structure_note}
+use Rattle.definitions.specs.Lists.{first_of, or_else}
+use Rattle.definitions.specs.Header.{Who}
+use Rattle.definitions.specs.declared.refusals.Refusal.TheVariants.{Note}
+use Rattle.definitions.specs.Halt.{Halt, Refuses, header_notes, structure_notes, structure_note}
 use Rattle.envelope.specs.Conditions.{first_note}
 
 -- the outcome of a note

@@ -1,10 +1,10 @@
 -- The conditions of a text that can be read, in two parts.
 use Rattle.std.specs.Prelude.{ℕ, Bool, not, ◌||◌, ◌&&◌, List, length, take, drop, nat_lt, ◌==◌, slice_index, slice_get, unwrap_or, true, codes, bytes_eq}
 use Rattle.std.specs.List.{list_all, range_with_len}
-use Rattle.profile.specs.declared.widths.TheConstants.{ISA_BYTES}
-use Rattle.profile.specs.Bytes.{Delims, is_data, is_digit}
-use Rattle.profile.specs.Limits.{most_bytes}
-use Rattle.profile.specs.Header.{places, isa, is_legible, separator_offsets}
+use Rattle.definitions.specs.declared.widths.TheConstants.{ISA_BYTES}
+use Rattle.definitions.specs.Bytes.{Delims, is_data, is_digit}
+use Rattle.definitions.specs.Limits.{most_bytes}
+use Rattle.definitions.specs.Header.{places, isa, is_legible, separator_offsets}
 
 abbrev pub is_begun : List ℕ → Bool
 is_begun text = not (nat_lt most_bytes (length text) || nat_lt (length text) ISA_BYTES

@@ -2,10 +2,10 @@
 -- delimiters of their text.
 use Rattle.std.specs.Prelude.{◌≡◌, ℕ, ◌+◌, ◌≤◌, Bool, List, map, length, if◌then◌else◌, IsTrue, codes, Option, option_map}
 use Rattle.std.specs.List.{position_or_len}
-use Rattle.profile.specs.Limits.{most_bytes}
-use Rattle.profile.specs.Bytes.{Delims}
-use Rattle.profile.specs.Cut.{Segment, Piece, AreOf, segments_of, has_id}
-use Rattle.profile.specs.Structure.{Set, Group, head_of}
+use Rattle.definitions.specs.Limits.{most_bytes}
+use Rattle.definitions.specs.Bytes.{Delims}
+use Rattle.definitions.specs.Cut.{Segment, Piece, AreOf, segments_of, has_id}
+use Rattle.definitions.specs.Structure.{Set, Group, head_of}
 
 abbrev pub piece : Delims → Segment → Piece
 piece d s = record { delims = d; elements = s }

@@ -1,9 +1,9 @@
 ghost use Rattle.std.specs.Prelude.{◌≡◌, ◌≤◌, ◌<◌, ◌^◌, ◌==◌, bytes_eq, length};
 ghost use Rattle.std.specs.List.{list_all};
-ghost use Rattle.profile.specs.Bytes as meant;
-ghost use Rattle.profile.specs.Limits.{most_partner};
+ghost use Rattle.definitions.specs.Bytes as meant;
+ghost use Rattle.definitions.specs.Limits.{most_partner};
 
-use profile::MOST_PARTNER;
+use definitions::MOST_PARTNER;
 use segments::value_up_to;
 
 /// Whether the two are the same.

@@ -1,14 +1,14 @@
 ghost use Rattle.std.specs.Prelude.{◌≡◌, ◌<◌, ◌+◌, ◌^◌, ◌==◌, length, min, sum_by};
 ghost use Rattle.std.specs.List.{list_all, list_any};
-ghost use Rattle.profile.specs.Cut as cuts;
-ghost use Rattle.profile.specs.Elements.{is_well_formed as well_formed};
-ghost use Rattle.profile.specs.Halt as meant;
+ghost use Rattle.definitions.specs.Cut as cuts;
+ghost use Rattle.definitions.specs.Elements.{is_well_formed as well_formed};
+ghost use Rattle.definitions.specs.Halt as meant;
 ghost use Rattle.envelope.specs.Conditions as conditions;
 
 use crate::looking::{count, has};
 use crate::parts::Group;
 use crate::places::are_in_place;
-use profile::{LEAST_SEGMENT, MOST_GROUPS, MOST_SEGMENT, MOST_SETS};
+use definitions::{LEAST_SEGMENT, MOST_GROUPS, MOST_SEGMENT, MOST_SETS};
 use segments::{Delims, Segment, all_alphanumeric, is_well_formed};
 
 // More than there are of anything: sums are cut off here.

@@ -1,5 +1,5 @@
 ghost use Rattle.std.specs.Prelude.{◌≡◌, ◌≤◌, length, IfOk};
-ghost use Rattle.profile.specs.Cut as cuts;
+ghost use Rattle.definitions.specs.Cut as cuts;
 
 use segments::{Delims, Segment, cut};
 use std::alloc::{AllocError, Global};

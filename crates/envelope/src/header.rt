@@ -1,11 +1,11 @@
 ghost use Rattle.std.specs.Prelude.{◌≡◌, ◌+◌, ℕ, ◌<◌, ◌≤◌, List, length, slice_get, unwrap_or, if◌then◌else◌, Some, None, false};
-ghost use Rattle.profile.specs.declared.widths.TheConstants.{ISA_BYTES};
-ghost use Rattle.profile.specs.Halt.{is_addressed_to as names};
-ghost use Rattle.profile.specs.Header as meant;
+ghost use Rattle.definitions.specs.declared.widths.TheConstants.{ISA_BYTES};
+ghost use Rattle.definitions.specs.Halt.{is_addressed_to as names};
+ghost use Rattle.definitions.specs.Header as meant;
 ghost use Rattle.envelope.specs.Legibility.{width};
 
 use crate::bytes::{is_padded, same, stripped};
-use profile::ISA_PLACES;
+use definitions::ISA_PLACES;
 use segments::{Delims, Who};
 use std::marker::Model;
 

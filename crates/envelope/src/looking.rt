@@ -1,7 +1,7 @@
 ghost use Rattle.std.specs.Prelude.{◌≡◌, ◌<◌, ◌≤◌, ◌+◌, ◌-◌, ◌^◌, true, get_or, [], ◌∷◌, length, take, drop, count_by, MatchOption, position, find, option_copied};
 ghost use Rattle.std.specs.List.{position_or_len, before_first, list_any};
-ghost use Rattle.profile.specs.Lists.{parted};
-ghost use Rattle.profile.specs.Cut as cuts;
+ghost use Rattle.definitions.specs.Lists.{parted};
+ghost use Rattle.definitions.specs.Cut as cuts;
 ghost use Rattle.envelope.specs.Parts.{marked};
 
 use segments::Segment;

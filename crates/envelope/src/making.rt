@@ -1,8 +1,8 @@
 ghost use Rattle.std.specs.Prelude.{◌≡◌, ◌<◌, ◌≤◌, true, ◌∷◌, length, map, codes, IfOk, option_copied};
-ghost use Rattle.profile.specs.Limits.{most_bytes};
-ghost use Rattle.profile.specs.Lists.{parted};
-ghost use Rattle.profile.specs.Cut.{AreOf, has_id, segments_of};
-ghost use Rattle.profile.specs.Structure as meant;
+ghost use Rattle.definitions.specs.Limits.{most_bytes};
+ghost use Rattle.definitions.specs.Lists.{parted};
+ghost use Rattle.definitions.specs.Cut.{AreOf, has_id, segments_of};
+ghost use Rattle.definitions.specs.Structure as meant;
 ghost use Rattle.envelope.specs.Parts as held;
 
 use crate::looking::{before, first_with, has, run_from, through};

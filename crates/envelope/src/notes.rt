@@ -1,12 +1,12 @@
 ghost use Rattle.std.specs.Prelude.{◌≡◌, ◌++◌, length, codes, is_none, [], ◌∷◌};
-ghost use Rattle.profile.specs.Bytes.{is_one_of};
-ghost use Rattle.profile.specs.Moments as moments;
-ghost use Rattle.profile.specs.Halt.{header_notes};
+ghost use Rattle.definitions.specs.Bytes.{is_one_of};
+ghost use Rattle.definitions.specs.Moments as moments;
+ghost use Rattle.definitions.specs.Halt.{header_notes};
 ghost use Rattle.envelope.specs.Conditions as meant;
 
 use crate::bytes::{all_spaces, same};
 use crate::header::Isa;
-use profile::{DATE_DIGITS, LEAST_TIME};
+use definitions::{DATE_DIGITS, LEAST_TIME};
 use segments::{Delims, ElementRow, Kind, Who, element_fault, must};
 
 // ISA09 after the century, and ISA10: the rows that tell a date and a time of day.

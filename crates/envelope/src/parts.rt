@@ -1,7 +1,7 @@
 ghost use Rattle.std.specs.Prelude.{◌≡◌, ◌≤◌, length, map, option_copied, option_map};
-ghost use Rattle.profile.specs.Limits.{most_bytes};
-ghost use Rattle.profile.specs.Cut.{AreOf, element, segments_of};
-ghost use Rattle.profile.specs.Structure.{head_of};
+ghost use Rattle.definitions.specs.Limits.{most_bytes};
+ghost use Rattle.definitions.specs.Cut.{AreOf, element, segments_of};
+ghost use Rattle.definitions.specs.Structure.{head_of};
 ghost use Rattle.envelope.specs.Parts as held;
 
 use segments::{Delims, Segment};

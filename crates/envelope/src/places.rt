@@ -1,8 +1,8 @@
 ghost use Rattle.std.specs.Prelude.{◌≡◌, codes, []};
 ghost use Rattle.std.specs.List.{after_first, list_all};
-ghost use Rattle.profile.specs.Lists.{parted};
-ghost use Rattle.profile.specs.Cut.{has_id, segments_of};
-ghost use Rattle.profile.specs.Structure as meant;
+ghost use Rattle.definitions.specs.Lists.{parted};
+ghost use Rattle.definitions.specs.Cut.{has_id, segments_of};
+ghost use Rattle.definitions.specs.Structure as meant;
 
 use crate::looking::{before, place_of, run_from};
 use segments::Segment;

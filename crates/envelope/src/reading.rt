@@ -1,13 +1,13 @@
 ghost use Rattle.std.specs.Prelude.{◌≡◌, ◌≤◌, ◌<◌, ◌==◌, true, false, length, take, slice_index, codes, bytes_eq, MatchOption, MatchResult};
 ghost use Rattle.std.specs.List.{list_all, range_with_len};
-ghost use Rattle.profile.specs.declared.widths.TheConstants.{ISA_BYTES};
-ghost use Rattle.profile.specs.Bytes.{is_data, is_line_end as ends_line};
-ghost use Rattle.profile.specs.Header as meant;
+ghost use Rattle.definitions.specs.declared.widths.TheConstants.{ISA_BYTES};
+ghost use Rattle.definitions.specs.Bytes.{is_data, is_line_end as ends_line};
+ghost use Rattle.definitions.specs.Header as meant;
 ghost use Rattle.envelope.specs.Legibility as parts;
 
 use crate::bytes::same;
 use crate::header::{Isa, Unreadable, element};
-use profile::{ISA_BYTES, ISA_SEPARATORS, MOST_BYTES};
+use definitions::{ISA_BYTES, ISA_SEPARATORS, MOST_BYTES};
 use segments::{Delims, all_digits};
 
 // Whether the text begins as a header does.

@@ -1,8 +1,8 @@
 ghost use Rattle.std.specs.Prelude.{◌≡◌, filter, codes};
 ghost use Rattle.std.specs.List.{list_all};
-ghost use Rattle.profile.specs.Cut as cuts;
-ghost use Rattle.profile.specs.Elements.{is_well_formed as well_formed};
-ghost use Rattle.profile.specs.Halt as meant;
+ghost use Rattle.definitions.specs.Cut as cuts;
+ghost use Rattle.definitions.specs.Elements.{is_well_formed as well_formed};
+ghost use Rattle.definitions.specs.Halt as meant;
 ghost use Rattle.envelope.specs.Conditions as conditions;
 ghost use Rattle.envelope.specs.Parts.{marked};
 

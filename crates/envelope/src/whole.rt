@@ -1,8 +1,8 @@
 ghost use Rattle.std.specs.Prelude.{◌≡◌, MatchResult, None, length, nat_lt};
-ghost use Rattle.profile.specs.Cut.{cut as meaning};
-ghost use Rattle.profile.specs.Halt.{structure_note};
-ghost use Rattle.profile.specs.Header.{delims_of};
-ghost use Rattle.profile.specs.Structure.{groups_of};
+ghost use Rattle.definitions.specs.Cut.{cut as meaning};
+ghost use Rattle.definitions.specs.Halt.{structure_note};
+ghost use Rattle.definitions.specs.Header.{delims_of};
+ghost use Rattle.definitions.specs.Structure.{groups_of};
 ghost use Rattle.envelope.specs.Conditions.{IsTold};
 
 use crate::content::{are_groups_invalid, are_segments_invalid};

@@ -3,11 +3,11 @@ use Rattle.std.proofs.Common.{◌≡◌, ◌∙◌, sym, refl, ap, subst, ℕ, L
 use Rattle.std.proofs.lemmas.List.{length-map, map-append}
 use Rattle.std.proofs.lemmas.List.Elements.{All-nil, All-push}
 use Rattle.std.specs.declared.io.ErrorKind.{ErrorKind}
-use Rattle.profile.specs.declared.rules.Rules.TheVariants.{Two}
-use Rattle.profile.specs.Moments.{Moment}
-use Rattle.profile.specs.Reply as replies
-use Rattle.profile.specs.Register.{Interchange}
-use Rattle.profile.specs.Accepted.{accepted_on, replies_on, reply_to}
+use Rattle.definitions.specs.Rules.{Today}
+use Rattle.definitions.specs.Moments.{Moment}
+use Rattle.definitions.specs.Reply as replies
+use Rattle.definitions.specs.Register.{Interchange}
+use Rattle.definitions.specs.Accepted.{accepted_on, replies_on, reply_to}
 use Rattle.store.specs.Standing.{Standing, IsUsable, GoesOn, LeavesEither, OfUsable}
 use Rattle.store.proofs.Changes.{clean_before}
 use Rattle.folders.specs.Answers.{IsBeside, IsFileBeside}
@@ -51,10 +51,10 @@ handed_in_more P a b c t names told name one p q before file =
           let mid = before.taken.usable early L u in
           map-append (λ (f : HandedFile). f.reply) before.files one_file
           ∙ ap (λ (rs : List replies.Reply). rs ++ file.file.reply ∷ []) (before.replied early L u)
-          ∙ ap (λ (r : replies.Reply). replies_on Two a.warehouse L (handed t texts) ++ r ∷ []) (file.replied clean _ mid)
-          ∙ ap (λ W. replies_on Two a.warehouse L (handed t texts) ++ reply_to Two W (accepted_on Two a.warehouse L (handed t texts)) (Interchange text) t ∷ []) p.warehouse
+          ∙ ap (λ (r : replies.Reply). replies_on Today a.warehouse L (handed t texts) ++ r ∷ []) (file.replied clean _ mid)
+          ∙ ap (λ W. replies_on Today a.warehouse L (handed t texts) ++ reply_to Today W (accepted_on Today a.warehouse L (handed t texts)) (Interchange text) t ∷ []) p.warehouse
           ∙ sym (replies_more a.warehouse L t texts text)
-          ∙ ap (λ (ts : List (List ℕ)). replies_on Two a.warehouse L (handed t ts)) (sym (map-append (λ (f : HandedFile). f.text) before.files one_file));
+          ∙ ap (λ (ts : List (List ℕ)). replies_on Today a.warehouse L (handed t ts)) (sym (map-append (λ (f : HandedFile). f.text) before.files one_file));
       told_is = ap (λ (bs : List Became). bs ++ one ∷ []) before.told_is
           ∙ ap (λ (x : Became). map (λ (f : HandedFile). became f.reply) before.files ++ x ∷ []) file.told_is
           ∙ sym (map-append (λ (f : HandedFile). became f.reply) before.files one_file);
@@ -68,7 +68,7 @@ texts_counted files names k named counted =
     counted ∙ ap length (sym named) ∙ length-map files (λ (f : HandedFile). f.name) ∙ sym (length-map files (λ (f : HandedFile). f.text))
 
 text_or_none : (has : Type 0) (a b c : Standing) (t : Moment) (texts : List (List ℕ)) (told : List Became) → GoesOn b c → AreTextsTaken a b t texts told → has ⊎ OfUsable b c (λ L. IsUsable c L)
-    → has ⊎ OfUsable a c (λ L. IsUsable c (accepted_on Two a.warehouse L (handed t texts)))
+    → has ⊎ OfUsable a c (λ L. IsUsable c (accepted_on Today a.warehouse L (handed t texts)))
 text_or_none has a b c t texts told q before (inl h) = inl h
 text_or_none has a b c t texts told q before (inr h) = inr (λ clean L u. h clean _ (before.usable (clean_before b c q clean) L u))
 
@@ -88,7 +88,7 @@ stopped_within P has stop a b c t before_names told names p same q before next n
                 either_usable c _ _ _ _ refl (last_later a b t texts file.last L p) (file.taken.usable clean _ mid opened);
             left = λ clean L u.
                 let mid = before.taken.usable (clean_before b c q clean) L u in
-                subst (LeavesEither c (accepted_on Two a.warehouse L (handed t texts))) (last_later a b t texts file.last L p) (file.taken.left clean _ mid);
+                subst (LeavesEither c (accepted_on Today a.warehouse L (handed t texts))) (last_later a b t texts file.last L p) (file.taken.left clean _ mid);
           };
           why = fault_of_later a b c stop.fault t texts told p same q before.taken file.why;
         };

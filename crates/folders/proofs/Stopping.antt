@@ -1,7 +1,7 @@
 -- Stops of a folder that is taken into another.
 use Rattle.std.proofs.Common.{◌≡◌, ◌∙◌, refl, sym, ap, subst, ℕ, List, [], ◌∷◌, length, map, string_bytes}
 use Rattle.std.proofs.lemmas.List.{length-map}
-use Rattle.profile.specs.Moments.{Moment}
+use Rattle.definitions.specs.Moments.{Moment}
 use Rattle.store.specs.Standing.{Standing, GoesOn}
 use Rattle.folders.specs.Folders.{Became}
 use Rattle.folders.specs.Handed.{HandedFile, AreFilesHanded}

@@ -2,12 +2,12 @@
 use Rattle.std.proofs.Common.{◌≡◌, ◌∙◌, sym, refl, ap, subst, ℕ, true, false, List, [], ◌∷◌, ◌++◌, String, Global, length, map, ◌⊎◌, inl, inr, Result, Ok, Err, IfErr, Some, slice_get}
 use Rattle.std.specs.Result.{IsErr, IsErrAnd}
 use Rattle.std.proofs.lemmas.List.{append-nil}
-use Rattle.profile.specs.declared.rules.Rules.TheVariants.{Two}
-use Rattle.profile.specs.Header.{Who}
-use Rattle.profile.specs.Moments.{Moment}
-use Rattle.profile.specs.Register.{Entry, Command, Interchange}
-use Rattle.profile.specs.Reply as replies
-use Rattle.profile.specs.Accepted.{accepted_on, replies_on, after, reply_to}
+use Rattle.definitions.specs.Rules.{Today}
+use Rattle.definitions.specs.Header.{Who}
+use Rattle.definitions.specs.Moments.{Moment}
+use Rattle.definitions.specs.Register.{Entry, Command, Interchange}
+use Rattle.definitions.specs.Reply as replies
+use Rattle.definitions.specs.Accepted.{accepted_on, replies_on, after, reply_to}
 use Rattle.store.specs.Standing.{Standing, IsUsable, KeepsLegal, IsFault, GoesOn, LeavesEither, OfKept, OfUsable}
 use Rattle.store.specs.Fault.{Fault}
 use Rattle.store.specs.Fault.TheVariants.{OutOfMemory, Store, Reopen, NotThisBook, Device}
@@ -29,20 +29,20 @@ became_more (x ∷ rs) r = ap (λ (bs : List Became). became x ∷ bs) (became_m
 
 -- the register and the replies after one text more
 later_more : (W : Who) (L : List Entry) (t : Moment) (texts : List (List ℕ)) (text : List ℕ)
-    → accepted_on Two W L (handed t (texts ++ text ∷ [])) ≡ after Two W (accepted_on Two W L (handed t texts)) (Interchange text, t)
-later_more W L t texts text = ap (accepted_on Two W L) (handed_more t texts text) ∙ accepted_on-more Two W L (handed t texts) (Interchange text, t)
+    → accepted_on Today W L (handed t (texts ++ text ∷ [])) ≡ after Today W (accepted_on Today W L (handed t texts)) (Interchange text, t)
+later_more W L t texts text = ap (accepted_on Today W L) (handed_more t texts text) ∙ accepted_on-more Today W L (handed t texts) (Interchange text, t)
 
 told_more : (W : Who) (L : List Entry) (t : Moment) (texts : List (List ℕ)) (text : List ℕ)
-    → map became (replies_on Two W L (handed t (texts ++ text ∷ [])))
-    ≡ map became (replies_on Two W L (handed t texts)) ++ became (reply_to Two W (accepted_on Two W L (handed t texts)) (Interchange text) t) ∷ []
+    → map became (replies_on Today W L (handed t (texts ++ text ∷ [])))
+    ≡ map became (replies_on Today W L (handed t texts)) ++ became (reply_to Today W (accepted_on Today W L (handed t texts)) (Interchange text) t) ∷ []
 told_more W L t texts text =
-    ap (λ cs. map became (replies_on Two W L cs)) (handed_more t texts text)
-    ∙ ap (map became) (replies_on-more Two W L (handed t texts) (Interchange text, t))
-    ∙ became_more (replies_on Two W L (handed t texts)) (reply_to Two W (accepted_on Two W L (handed t texts)) (Interchange text) t)
+    ap (λ cs. map became (replies_on Today W L cs)) (handed_more t texts text)
+    ∙ ap (map became) (replies_on-more Today W L (handed t texts) (Interchange text, t))
+    ∙ became_more (replies_on Today W L (handed t texts)) (reply_to Today W (accepted_on Today W L (handed t texts)) (Interchange text) t)
 
 pub replies_more : (W : Who) (L : List Entry) (t : Moment) (texts : List (List ℕ)) (text : List ℕ)
-    → replies_on Two W L (handed t (texts ++ text ∷ [])) ≡ replies_on Two W L (handed t texts) ++ reply_to Two W (accepted_on Two W L (handed t texts)) (Interchange text) t ∷ []
-replies_more W L t texts text = ap (replies_on Two W L) (handed_more t texts text) ∙ replies_on-more Two W L (handed t texts) (Interchange text, t)
+    → replies_on Today W L (handed t (texts ++ text ∷ [])) ≡ replies_on Today W L (handed t texts) ++ reply_to Today W (accepted_on Today W L (handed t texts)) (Interchange text) t ∷ []
+replies_more W L t texts text = ap (replies_on Today W L) (handed_more t texts text) ∙ replies_on-more Today W L (handed t texts) (Interchange text, t)
 
 -- Nothing was taken yet.
 
@@ -53,9 +53,9 @@ none_taken a t = record { told_is = λ clean L u. refl; usable = λ clean L u. u
 
 -- the register after the one text of a file, after those that were taken
 pub last_later : (a b : Standing) (t : Moment) (texts : List (List ℕ)) (last : List ℕ) (L : List Entry) → GoesOn a b
-    → after Two b.warehouse (accepted_on Two a.warehouse L (handed t texts)) (Interchange last, t) ≡ accepted_on Two a.warehouse L (handed t (texts ++ last ∷ []))
+    → after Today b.warehouse (accepted_on Today a.warehouse L (handed t texts)) (Interchange last, t) ≡ accepted_on Today a.warehouse L (handed t (texts ++ last ∷ []))
 last_later a b t texts last L p =
-    ap (λ W. after Two W (accepted_on Two a.warehouse L (handed t texts)) (Interchange last, t)) p.warehouse ∙ sym (later_more a.warehouse L t texts last)
+    ap (λ W. after Today W (accepted_on Today a.warehouse L (handed t texts)) (Interchange last, t)) p.warehouse ∙ sym (later_more a.warehouse L t texts last)
 
 pub taken_more : (a b c : Standing) (t : Moment) (texts : List (List ℕ)) (text : List ℕ) (told : List Became) (one : Became) → GoesOn a b → GoesOn b c
     → AreTextsTaken a b t texts told → AreTextsTaken b c t (text ∷ []) (one ∷ []) → AreTextsTaken a c t (texts ++ text ∷ []) (told ++ one ∷ [])
@@ -64,8 +64,8 @@ taken_more a b c t texts text told one p q before file = record {
       let early = clean_before b c q clean in
       let mid = before.usable early L u in
       ap (λ (bs : List Became). bs ++ one ∷ []) (before.told_is early L u)
-      ∙ ap (λ (bs : List Became). map became (replies_on Two a.warehouse L (handed t texts)) ++ bs) (file.told_is clean _ mid)
-      ∙ ap (λ W. map became (replies_on Two a.warehouse L (handed t texts)) ++ became (reply_to Two W (accepted_on Two a.warehouse L (handed t texts)) (Interchange text) t) ∷ []) p.warehouse
+      ∙ ap (λ (bs : List Became). map became (replies_on Today a.warehouse L (handed t texts)) ++ bs) (file.told_is clean _ mid)
+      ∙ ap (λ W. map became (replies_on Today a.warehouse L (handed t texts)) ++ became (reply_to Today W (accepted_on Today a.warehouse L (handed t texts)) (Interchange text) t) ∷ []) p.warehouse
       ∙ sym (told_more a.warehouse L t texts text);
   usable = λ clean L u.
       let mid = before.usable (clean_before b c q clean) L u in
@@ -141,9 +141,9 @@ all_counted stop a b t texts told p same taken why counted = record {
 
 -- a reply to the text of a file
 pub finish_taken : (a b : Standing) (t : Moment) (text : List ℕ) (reply : replies.Reply) (told : Became) → told ≡ became reply
-    → OfUsable a b (λ L. reply ≡ reply_to Two a.warehouse L (Interchange text) t)
-    → OfUsable a b (λ L. IsUsable b (after Two a.warehouse L (Interchange text, t)))
-    → OfKept a b (λ L. KeepsLegal b (after Two a.warehouse L (Interchange text, t))) → AreTextsTaken a b t (text ∷ []) (told ∷ [])
+    → OfUsable a b (λ L. reply ≡ reply_to Today a.warehouse L (Interchange text) t)
+    → OfUsable a b (λ L. IsUsable b (after Today a.warehouse L (Interchange text, t)))
+    → OfKept a b (λ L. KeepsLegal b (after Today a.warehouse L (Interchange text, t))) → AreTextsTaken a b t (text ∷ []) (told ∷ [])
 finish_taken a b t text reply told is said goes keeps = record {
   told_is = λ clean L u. ap (λ (x : Became). x ∷ []) (is ∙ ap became (said clean L u));
   usable = goes;
@@ -161,7 +161,7 @@ unread has a fault t why = record {
 
 -- a fault of the book when a file is handed in
 pub unsubmitted : (has : List ℕ → Type 0) (a b : Standing) (fault : Fault) (t : Moment) (text : List ℕ) → has text → IsFault fault a b
-    → OfUsable a b (λ L. LeavesEither b L (after Two a.warehouse L (Interchange text, t))) → IsUntaken has fault a b t
+    → OfUsable a b (λ L. LeavesEither b L (after Today a.warehouse L (Interchange text, t))) → IsUntaken has fault a b t
 unsubmitted has a b fault t text read f left = record {
   last = text;
   taken = record {
@@ -174,7 +174,7 @@ unsubmitted has a b fault t text read f left = record {
 
 -- an answer that can't be written
 pub unanswered : (has : List ℕ → Type 0) (a b : Standing) (fault : Fault) (t : Moment) (text : List ℕ) → has text
-    → OfUsable a b (λ L. IsUsable b (after Two a.warehouse L (Interchange text, t))) → a.shut ≡ b.shut → IsDeviceFault fault → IsUntaken has fault a b t
+    → OfUsable a b (λ L. IsUsable b (after Today a.warehouse L (Interchange text, t))) → a.shut ≡ b.shut → IsDeviceFault fault → IsUntaken has fault a b t
 unanswered has a b fault t text read goes same why = record {
   last = text;
   taken = record {

@@ -2,12 +2,12 @@
 use Rattle.std.specs.Prelude.{◌≡◌, ◌⊎◌, ◌∷◌, ◌++◌, [], true, false, ℕ, List, map}
 use Rattle.std.specs.declared.io.ErrorKind.{ErrorKind}
 use Rattle.std.specs.declared.io.ErrorKind.TheVariants as kinds
-use Rattle.profile.specs.declared.rules.Rules.TheVariants.{Two}
-use Rattle.profile.specs.Moments.{Moment}
-use Rattle.profile.specs.Register.{Command, Interchange}
-use Rattle.profile.specs.Reply as replies
-use Rattle.profile.specs.declared.refusals.Refusal.{Refusal}
-use Rattle.profile.specs.Accepted.{accepted_on, replies_on}
+use Rattle.definitions.specs.Rules.{Today}
+use Rattle.definitions.specs.Moments.{Moment}
+use Rattle.definitions.specs.Register.{Command, Interchange}
+use Rattle.definitions.specs.Reply as replies
+use Rattle.definitions.specs.declared.refusals.Refusal.{Refusal}
+use Rattle.definitions.specs.Accepted.{accepted_on, replies_on}
 use Rattle.store.specs.Standing.{Standing, IsUsable, KeepsLegal, LeavesEither, OfKept, OfUsable, Refused}
 use Rattle.store.specs.Fault.{Fault}
 use Rattle.store.specs.Fault.TheVariants.{OutOfMemory, Store, Reopen, NotThisBook, Device}
@@ -57,22 +57,22 @@ HasCause fails fault = fault ≡ Device
 pub record AreTextsTaken
     (old new : Standing) (t : Moment) (texts : List (List ℕ)) (told : List Became) : Type 0 where
   pub told_is : OfUsable old new
-      (λ L. told ≡ map became (replies_on Two old.warehouse L (handed t texts)))
+      (λ L. told ≡ map became (replies_on Today old.warehouse L (handed t texts)))
   pub usable : OfUsable old new
-      (λ L. IsUsable new (accepted_on Two old.warehouse L (handed t texts)))
+      (λ L. IsUsable new (accepted_on Today old.warehouse L (handed t texts)))
   pub keeps : OfKept old new (λ L. KeepsLegal new
-      (accepted_on Two old.warehouse L (handed t texts)))
+      (accepted_on Today old.warehouse L (handed t texts)))
 
 -- The texts were handed in, and one more perhaps. The register is the one after those, or after
 -- that one too; a crash leaves one of the two, also where the book has to be opened again.
 pub record AreTakenUntil
     (old new : Standing) (t : Moment) (texts : List (List ℕ)) (last : List ℕ) : Type 0 where
   pub usable : OfUsable old new (λ L. new.shut ≡ false
-      → IsUsable new (accepted_on Two old.warehouse L (handed t texts))
-      ⊎ IsUsable new (accepted_on Two old.warehouse L (handed t (texts ++ last ∷ []))))
+      → IsUsable new (accepted_on Today old.warehouse L (handed t texts))
+      ⊎ IsUsable new (accepted_on Today old.warehouse L (handed t (texts ++ last ∷ []))))
   pub left : OfUsable old new
-      (λ L. LeavesEither new (accepted_on Two old.warehouse L (handed t texts))
-      (accepted_on Two old.warehouse L (handed t (texts ++ last ∷ []))))
+      (λ L. LeavesEither new (accepted_on Today old.warehouse L (handed t texts))
+      (accepted_on Today old.warehouse L (handed t (texts ++ last ∷ []))))
 
 -- Why the rest of a folder wasn't taken.
 pub record IsFolderFault (fault : Fault) (old new : Standing) : Type 0 where

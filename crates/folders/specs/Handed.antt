@@ -1,12 +1,12 @@
 -- Files that are handed in: what was read of each, and where its answer is.
 use Rattle.std.specs.Prelude.{◌≡◌, ◌≢◌, ◌⊎◌, ◌+◌, ◌∷◌, [], ℕ, List, All, map, take, String, string_bytes}
 use Rattle.std.specs.Global.{Global}
-use Rattle.profile.specs.declared.limits.TheConstants.{MOST_BYTES}
-use Rattle.profile.specs.declared.rules.Rules.TheVariants.{Two}
-use Rattle.profile.specs.Moments.{Moment}
-use Rattle.profile.specs.Register.{Interchange}
-use Rattle.profile.specs.Reply as replies
-use Rattle.profile.specs.Accepted.{reply_to, replies_on, accepted_on}
+use Rattle.definitions.specs.declared.limits.TheConstants.{MOST_BYTES}
+use Rattle.definitions.specs.Rules.{Today}
+use Rattle.definitions.specs.Moments.{Moment}
+use Rattle.definitions.specs.Register.{Interchange}
+use Rattle.definitions.specs.Reply as replies
+use Rattle.definitions.specs.Accepted.{reply_to, replies_on, accepted_on}
 use Rattle.store.specs.Standing.{Standing, IsUsable, OfUsable}
 use Rattle.store.specs.Fault.{Fault}
 use Rattle.folders.specs.Answers.{IsBeside}
@@ -52,7 +52,7 @@ pub record IsFileHanded
   pub named : file.name ≡ name
   pub each : P file
   pub replied : OfUsable old new
-      (λ L. file.reply ≡ reply_to Two old.warehouse L (Interchange file.text) t)
+      (λ L. file.reply ≡ reply_to Today old.warehouse L (Interchange file.text) t)
   pub told_is : told ≡ became file.reply
   pub taken : AreTextsTaken old new t (file.text ∷ []) (told ∷ [])
 
@@ -64,7 +64,7 @@ pub record AreFilesHanded
   pub named : map (λ (file : HandedFile). file.name) files ≡ names
   pub each : All P files
   pub replied : OfUsable old new (λ L. map (λ (file : HandedFile). file.reply) files
-      ≡ replies_on Two old.warehouse L (handed t (map (λ (file : HandedFile). file.text) files)))
+      ≡ replies_on Today old.warehouse L (handed t (map (λ (file : HandedFile). file.text) files)))
   pub told_is : told ≡ map (λ (file : HandedFile). became file.reply) files
   pub taken : AreTextsTaken old new t (map (λ (file : HandedFile). file.text) files) told
 
@@ -89,9 +89,9 @@ pub record IsStoppedWithin
       ≡ map string_bytes (take stop.taken names)
   pub each : All P files
   pub replied : OfUsable old new (λ L. map (λ (file : HandedFile). file.reply) files
-      ≡ replies_on Two old.warehouse L (handed t is_stop.stopped.texts))
+      ≡ replies_on Today old.warehouse L (handed t is_stop.stopped.texts))
   pub last : has (string_bytes next.0) is_stop.stopped.last ⊎ OfUsable old new
-      (λ L. IsUsable new (accepted_on Two old.warehouse L (handed t is_stop.stopped.texts)))
+      (λ L. IsUsable new (accepted_on Today old.warehouse L (handed t is_stop.stopped.texts)))
 
 -- It stopped within the interchanges that the folder has.
 pub record IsStoppedIn

@@ -1,7 +1,7 @@
 -- A folder that is taken into another.
 use Rattle.std.specs.Prelude.{◌≡◌, ℕ, Bool, true, false, List, length, map, IfNone, IsSome, None, String, string_bytes}
 use Rattle.std.specs.Global.{Global}
-use Rattle.profile.specs.Moments.{Moment}
+use Rattle.definitions.specs.Moments.{Moment}
 use Rattle.store.specs.Standing.{Standing, IsUnchanged}
 use Rattle.folders.specs.Folders.{Became, IsDeviceFault}
 use Rattle.folders.specs.Handed.{HandedFile, AreFilesHanded, IsStoppedIn}

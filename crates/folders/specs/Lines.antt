@@ -1,12 +1,12 @@
 -- The lines that tell what became of a file, and what was passed over.
 use Rattle.std.specs.Prelude.{◌≡◌, ⊤, ℕ, ◌+◌, ◌-◌, ◌/◌, ◌%◌, ◌==◌, nat_lt, Bool, ◌&&◌, ◌||◌, if◌then◌else◌, List, [], ◌∷◌, ◌++◌, get_or, codes, decimal, Option, None, Some, String, string_bytes}
 use Rattle.std.specs.Global.{Global}
-use Rattle.profile.specs.declared.widths.TheConstants.{NOTE_DIGITS}
-use Rattle.profile.specs.Bytes.{is_between, zero_filled}
-use Rattle.profile.specs.Refusals.{refusal_number}
-use Rattle.profile.specs.declared.refusals.Refusal.{Refusal}
-use Rattle.profile.specs.declared.refusals.Refusal.TheVariants.{Unreadable, Note, Duplicate}
-use Rattle.profile.specs.Reports.{ended}
+use Rattle.definitions.specs.declared.widths.TheConstants.{NOTE_DIGITS}
+use Rattle.definitions.specs.Bytes.{is_between, zero_filled}
+use Rattle.definitions.specs.Refusals.{refusal_number}
+use Rattle.definitions.specs.declared.refusals.Refusal.{Refusal}
+use Rattle.definitions.specs.declared.refusals.Refusal.TheVariants.{Unreadable, Note, Duplicate}
+use Rattle.definitions.specs.Reports.{ended}
 use Rattle.folders.specs.Claims.{reason_text as stays_text}
 use Rattle.folders.specs.Folders.{Became, WasAccepted, WasStored, WasRefused}
 use Rattle.folders.specs.Passing.{reason_text}

@@ -9,7 +9,7 @@ use Rattle.folders.specs.declared.naming.RunFolder.{RunFolder}
 use Rattle.folders.specs.declared.naming.RunFolder.TheVariants.{Named, Empty, Unnamed}
 use Rattle.folders.specs.declared.naming.TheConstants.{MOST_RUNS}
 use Rattle.folders.specs.declared.folder.Taken.{Taken}
-use Rattle.profile.specs.declared.refusals.Refusal.TheVariants.{Unreadable}
+use Rattle.definitions.specs.declared.refusals.Refusal.TheVariants.{Unreadable}
 
 -- the folder in which interchanges are taken
 abbrev pub taking_path : List ℕ → List ℕ

@@ -1,7 +1,7 @@
 -- Where the taking of a folder stopped.
 use Rattle.std.specs.Prelude.{◌≡◌, List, length, Some, None, slice_get, String}
 use Rattle.std.specs.Global.{Global}
-use Rattle.profile.specs.Moments.{Moment}
+use Rattle.definitions.specs.Moments.{Moment}
 use Rattle.store.specs.Standing.{Standing}
 use Rattle.folders.specs.Folders.{IsDeviceFault, IsFolderStopped}
 use Rattle.folders.specs.declared.folder.FolderStop.{FolderStop}

@@ -2,7 +2,7 @@
 ghost use Rattle.std.specs.Prelude.{◌≡◌, IfErr, OnOk, string_bytes};
 ghost use Rattle.folders.specs.Folders.{WasRefused, became_of, HasCause, IsDeviceFault};
 ghost use Rattle.folders.specs.Naming.{AreUnreadable, IsMovedIfFree, IsSetAside};
-ghost use Rattle.profile.specs.declared.refusals.Refusal.TheVariants.{Unreadable};
+ghost use Rattle.definitions.specs.declared.refusals.Refusal.TheVariants.{Unreadable};
 
 use crate::calls::{is_path_free, make_folder, move_to, sync_folder};
 use crate::file_system::FileSystem;

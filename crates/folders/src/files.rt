@@ -4,7 +4,7 @@ ghost use Rattle.std.specs.IoError.{error_kind};
 ghost use Rattle.folders.specs.Entries.{IsFree, IsRead, IsStanding, is_there};
 
 use crate::file_system::{EntryKind, FileSystem};
-use profile::MOST_BYTES;
+use definitions::MOST_BYTES;
 use std::io;
 
 // Whether it is nothing.

@@ -1,15 +1,15 @@
 //! The lines that tell what became of a file, and what was passed over.
 ghost use Rattle.std.specs.Prelude.{◌≡◌, OnOk, string_bytes};
 ghost use Rattle.std.specs.Io.KnownBytes.{Appends};
-ghost use Rattle.profile.specs.declared.refusals.Refusal.TheVariants.{Note};
+ghost use Rattle.definitions.specs.declared.refusals.Refusal.TheVariants.{Note};
 ghost use Rattle.folders.specs.Folders.{became_of};
 ghost use Rattle.folders.specs.Lines.{became_text, passed_line, refused_text, taken_line, told_entry};
 
 use crate::folder::{FileOutcome, Taken};
 use crate::passing::PassedOver;
 use crate::told_names::write_name;
+use definitions::{NOTE_DIGITS, zero_filled};
 use itoa::Buffer;
-use profile::{NOTE_DIGITS, zero_filled};
 use std::io;
 use store::Refusal;
 

@@ -3,9 +3,9 @@ use Rattle.std.proofs.Common.{◌≡◌, ℕ, suc, ◌+◌, ◌<◌, Bool, true,
 use Rattle.std.specs.Prelude.{◌||◌, bytes_eq, Option}
 use Rattle.std.specs.List.{list_any}
 use Rattle.std.proofs.Math.Seq.{take-suc}
-use Rattle.profile.specs.Bytes.{Delims, is_one_of}
-use Rattle.profile.specs.Structure.{Set, Group, control_of, kind_of, envelope_fault, envelope_faults, examined_on}
-use Rattle.profile.specs.declared.set_kind.SetKind.{SetKind}
+use Rattle.definitions.specs.Bytes.{Delims, is_one_of}
+use Rattle.definitions.specs.Structure.{Set, Group, control_of, kind_of, envelope_fault, envelope_faults, examined_on}
+use Rattle.definitions.specs.declared.set_kind.SetKind.{SetKind}
 use Rattle.envelope.proofs.Holding.{sets_again}
 use Rattle.envelope.specs.Parts.{SetOf, set_under}
 

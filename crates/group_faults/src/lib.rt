@@ -4,10 +4,10 @@
 
 ghost use Rattle.std.specs.Prelude.{◌≡◌, ℕ, List, ◌<◌, ◌&&◌, not, codes, bytes_eq, is_none, find, option_to_list, IfOk};
 ghost use Rattle.std.specs.List.{list_any};
-ghost use Rattle.profile.specs.Bytes.{is_one_of};
-ghost use Rattle.profile.specs.Cut as cuts;
-ghost use Rattle.profile.specs.Structure as meant;
-ghost use Rattle.profile.specs.Words.{set_kinds, kind_function, kind_number};
+ghost use Rattle.definitions.specs.Bytes.{is_one_of};
+ghost use Rattle.definitions.specs.Cut as cuts;
+ghost use Rattle.definitions.specs.Structure as meant;
+ghost use Rattle.definitions.specs.Words.{set_kinds, kind_function, kind_number};
 
 use envelope::{Group, Set, has_value, last_element, same};
 use segments::Segment;

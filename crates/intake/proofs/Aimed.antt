@@ -2,21 +2,21 @@
 -- submitted
 use Rattle.std.proofs.Common.{◌≡◌, ℕ, Bool, true, false, List, Option, Some, None, option_map, Result, Err, Ok, sym, ◌∙◌, refl, ap, subst, if◌then◌else◌}
 use Rattle.httparse.specs.Grammar.{RequestHead}
-use Rattle.profile.specs.declared.rules.Rules.TheVariants.{Two}
-use Rattle.profile.specs.Moments.{Moment}
-use Rattle.profile.specs.Register.{Command, Interchange}
-use Rattle.profile.specs.Response.{Response, Method, Route, Head, is_exchange, body_after, asked, submitted_by, response_of, resp}
+use Rattle.definitions.specs.Rules.{Today}
+use Rattle.definitions.specs.Moments.{Moment}
+use Rattle.definitions.specs.Register.{Command, Interchange}
+use Rattle.definitions.specs.Response.{Response, Method, Route, Head, is_exchange, body_after, asked, submitted_by, response_of, resp}
 use Rattle.store.specs.Standing.{Standing}
 use Rattle.intake.specs.Calls.{Call, call_of}
 use Rattle.intake.specs.Fields.{head_of}
 use Rattle.intake.specs.Admitting.{call_submitted, call_answer, command_in, command_for, answer_of, answer_for}
 use Rattle.intake.specs.Reaching.{asked_for, sent_for}
-use Rattle.doors.specs.declared.askers.Asker.{Asker}
-use Rattle.doors.specs.declared.askers.Asker.TheVariants.{Unnamed, Depositor, Unknown}
+use Rattle.request_guard.specs.declared.askers.Asker.{Asker}
+use Rattle.request_guard.specs.declared.askers.Asker.TheVariants.{Unnamed, Depositor, Unknown}
 use Rattle.intake.specs.Serving.{IsAnswered}
-use Rattle.intake.specs.Targets.{Target, ToRoute, ToCall, target_by, target_of, handed_in, asked_with, command_with, response_with}
+use Rattle.intake.specs.Targets.{Target, ToRoute, ToCall, call_for, target_by, target_of, handed_in, asked_with, command_with, response_with}
 use Rattle.intake.specs.declared.audience.Audience.{Audience}
-use Rattle.intake.specs.declared.audience.Audience.TheVariants.{Partners, Clerks}
+use Rattle.intake.specs.declared.audience.Audience.TheVariants.{Partners, Testers, Clerks}
 
 abbrev with_head : Head → Result (List ℕ) ℕ → Result (Head × List ℕ) ℕ
 with_head h (Err status) = Err status
@@ -56,6 +56,7 @@ submitted_at (Some call) h rest q e = ap (command_with (head_of h).method (ToCal
 pub submits : (audience : Audience) (h : RequestHead) (rest : List ℕ) (q : Result (List ℕ) ℕ) → asked_with (head_of h) (target_of audience h.target) rest ≡ q
     → command_in audience (Some h) rest ≡ command_with (head_of h).method (target_of audience h.target) q
 submits Partners h rest q e = submitted_at None h rest q e
+submits Testers h rest q e = submitted_at (call_for Testers h.target) h rest q e
 submits Clerks h rest q e = submitted_at (call_of h.target) h rest q e
 
 -- where nobody is to say for whom a request is asked, it is asked for as ever
@@ -80,12 +81,12 @@ module _ (old new : Standing) (t : Moment) (r : Response) where
 
   -- and at a route alone
   abbrev Asked : Result (Head × List ℕ) ℕ → Type 0
-  Asked q = IsAnswered old new t (option_map Interchange (submitted_by q)) (λ L. response_of Two old.warehouse L t q) r
+  Asked q = IsAnswered old new t (option_map Interchange (submitted_by q)) (λ L. response_of Today old.warehouse L t q) r
 
   at_route : (h : Head) (q : Result (List ℕ) ℕ) → Answers h.method (ToRoute h.route) q → Asked (with_head h q)
   at_route h (Err status) answer = answer
   at_route h (Ok body) answer =
-      subst (λ (c : Option Command). IsAnswered old new t c (λ L. resp Two old.warehouse L h.method h.route body t) r) (as_submitted h.method h.route body) answer
+      subst (λ (c : Option Command). IsAnswered old new t c (λ L. resp Today old.warehouse L h.method h.route body t) r) (as_submitted h.method h.route body) answer
 
   at_call : (o : Option Call) (h : RequestHead) (rest : List ℕ) (q : Result (List ℕ) ℕ) → asked_with (head_of h) (target_by o h.target) rest ≡ q
       → Answers (head_of h).method (target_by o h.target) q
@@ -97,6 +98,7 @@ module _ (old new : Standing) (t : Moment) (r : Response) where
       → Answers (head_of h).method (target_of audience h.target) q
       → IsAnswered old new t (command_in audience (Some h) rest) (λ L. answer_of audience old.warehouse L (Some h) rest t) r
   to_request Partners h rest q e answer = at_call None h rest q e answer
+  to_request Testers h rest q e answer = at_call (call_for Testers h.target) h rest q e answer
   to_request Clerks h rest q e answer = at_call (call_of h.target) h rest q e answer
 
   pub to_asker : (asker : Asker) (audience : Audience) (h : RequestHead) (rest : List ℕ) (q : Result (List ℕ) ℕ) → asked_for asker (head_of h) (target_of audience h.target) rest ≡ q

@@ -1,11 +1,11 @@
 -- how a request is served: by a response that is as defined, or the 503 of a fault
 use Rattle.std.proofs.Common.{◌≡◌, ◌∙◌, List, Bool, true, false, Option, Some, None, sym, ap, subst, inl, inr}
-use Rattle.profile.specs.declared.rules.Rules.TheVariants.{Two}
-use Rattle.profile.specs.Moments.{Moment}
-use Rattle.profile.specs.Register.{Command, Entry}
-use Rattle.profile.specs.Reply as replies
-use Rattle.profile.specs.Accepted.{is_accepted, reply_to, after}
-use Rattle.profile.specs.Response.{Response, fault_response}
+use Rattle.definitions.specs.Rules.{Today}
+use Rattle.definitions.specs.Moments.{Moment}
+use Rattle.definitions.specs.Register.{Command, Entry}
+use Rattle.definitions.specs.Reply as replies
+use Rattle.definitions.specs.Accepted.{is_accepted, reply_to, after}
+use Rattle.definitions.specs.Response.{Response, fault_response}
 use Rattle.store.specs.Runs.{told, UnlessAccepted}
 use Rattle.store.specs.Standing.{Standing, GoesOn, IsUsable, IsUnchanged, IsFault, IsQueryFault, LeavesEither, OfKept, OfUsable}
 use Rattle.store.specs.Fault.{Fault}
@@ -18,14 +18,14 @@ use Rattle.intake.proofs.Replied.{not_accepted}
 
 module _ (old new : Standing) (t : Moment) where
   abbrev Taken : Command → Type 0
-  Taken c = OfUsable old new (λ L. IsUsable new (after Two old.warehouse L (c, t)))
+  Taken c = OfUsable old new (λ L. IsUsable new (after Today old.warehouse L (c, t)))
 
   abbrev Repeated : Command → Type 0
   Repeated c = OfKept old new
-      (λ L. is_accepted (reply_to Two old.warehouse L c t) ≡ false → IsUnchanged old new)
+      (λ L. is_accepted (reply_to Today old.warehouse L c t) ≡ false → IsUnchanged old new)
 
   abbrev Left : Command → Type 0
-  Left c = OfUsable old new (λ L. LeavesEither new L (after Two old.warehouse L (c, t)))
+  Left c = OfUsable old new (λ L. LeavesEither new L (after Today old.warehouse L (c, t)))
 
   -- what is shown, and the book is as it was
   pub shown : (meant : List Entry → Response) (asks : Bool) (says : Response → Type 0) (answer : Response)
@@ -60,12 +60,12 @@ module _ (old new : Standing) (t : Moment) where
 
   -- a command that was answered, whose reply is told so
   pub done : (tells : replies.Reply → Response) (a c : Command) (reply : Reply) (answer : Response) → a ≡ c → answer ≡ tells (told reply)
-      → OfKept old new (λ L. told reply ≡ reply_to Two old.warehouse L a t)
+      → OfKept old new (λ L. told reply ≡ reply_to Today old.warehouse L a t)
       → Taken a → UnlessAccepted reply (IsUnchanged old new) → new.shut ≡ false → GoesOn old new → (old.shut ≡ true → ⊥)
-      → IsRequestServed old new t (Some c) (λ L. tells (reply_to Two old.warehouse L c t)) true (IsResponseOf Reopen) answer
+      → IsRequestServed old new t (Some c) (λ L. tells (reply_to Today old.warehouse L c t)) true (IsResponseOf Reopen) answer
   done tells a c reply answer same is said taken kept opened goes shut = record {
     answered =
-        subst (λ (k : Command). IsAnswered old new t (Some k) (λ L. tells (reply_to Two old.warehouse L k t)) answer) same (inl (record {
+        subst (λ (k : Command). IsAnswered old new t (Some k) (λ L. tells (reply_to Today old.warehouse L k t)) answer) same (inl (record {
           response = λ clean L keeps legal. is ∙ ap tells (said clean L keeps legal);
           kept = λ e. cc;
           taken = λ k e. let at : a ≡ k = cc in subst Taken at taken;
@@ -76,6 +76,15 @@ module _ (old new : Standing) (t : Moment) where
     goes = goes;
     shut = λ was yes. absurd (shut was);
   }
+
+  -- one that was tried out
+  pub tried_out : (tells : replies.Reply → Response) (a c : Command) (reply : Reply) (answer : Response) → a ≡ c → answer ≡ tells (told reply)
+      → OfKept old new (λ L. told reply ≡ reply_to Today old.warehouse L a t) → IsUnchanged old new → (old.shut ≡ true → ⊥)
+      → IsRequestServed old new t None (λ L. tells (reply_to Today old.warehouse L c t)) true (IsResponseOf Reopen) answer
+  tried_out tells a c reply answer same is said unchanged shut =
+      shown _ _ _ _
+      (λ clean L keeps legal. is ∙ ap tells (said clean L keeps legal ∙ ap (λ (k : Command). reply_to Today old.warehouse L k t) same))
+      unchanged (λ was yes. absurd (shut was))
 
   -- and one at which a fault happened
   pub undone : (a c : Command) (fault : Fault) (meant : List Entry → Response) (answer : Response) → a ≡ c → answer ≡ fault_response fault
@@ -111,7 +120,7 @@ no_memory s t submits meant asks answer response = record {
       why = record { store = λ e. cc; reopen = λ e. cc; not_this = λ e clean L keeps. cc; device = λ e. cc };
     };
     kept = λ e. unchanged_refl s;
-    left = λ c e clean L u. leaves_first s L (after Two s.warehouse L (c, t)) u;
+    left = λ c e clean L u. leaves_first s L (after Today s.warehouse L (c, t)) u;
   });
   goes = (unchanged_refl s).goes;
   shut = λ was yes. inr response;

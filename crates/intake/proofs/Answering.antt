@@ -6,32 +6,32 @@ use Rattle.httparse.specs.Grammar.{RequestHead}
 use Rattle.httparse.specs.Spans.{IsRequestWithin, IsRequestAt}
 use Rattle.httparse.specs.declared.spans.HeaderSpan.{HeaderSpan}
 use Rattle.httparse.specs.declared.spans.RequestSpans.{RequestSpans}
-use Rattle.profile.specs.Header.{Who}
-use Rattle.profile.specs.Moments.{Moment}
-use Rattle.profile.specs.Response.{Response, Method, Head, bare, stated_length, fault_response}
+use Rattle.definitions.specs.Header.{Who}
+use Rattle.definitions.specs.Moments.{Moment}
+use Rattle.definitions.specs.Response.{Response, Method, Head, bare, stated_length, fault_response}
 use Rattle.store.specs.Standing.{Standing}
 use Rattle.store.specs.Fault.TheVariants.{OutOfMemory}
 use Rattle.store.proofs.Changes.{unchanged_refl}
 use Rattle.intake.specs.Fields.{head_of}
 use Rattle.intake.specs.Asking.{IsShutAnswer, IsShutResponse}
 use Rattle.intake.specs.Lines.{IsLineAt, TellsOf, HasLine, TellsSender, sender_in}
-use Rattle.doors.specs.Doors.{status_of}
-use Rattle.doors.specs.declared.barred.Barred.{Barred}
+use Rattle.request_guard.specs.Doors.{status_of}
+use Rattle.request_guard.specs.declared.barred.Barred.{Barred}
 use Rattle.intake.specs.declared.audience.Access.{Access}
 use Rattle.intake.specs.declared.audience.Audience.{Audience}
-use Rattle.intake.specs.declared.audience.Audience.TheVariants.{Partners, Clerks}
+use Rattle.intake.specs.declared.audience.Audience.TheVariants.{Partners, Testers, Clerks}
 use Rattle.intake.specs.declared.served.RequestLine.{RequestLine}
-use Rattle.fields.specs.Fields.{most_head, most_fields}
-use Rattle.gauges.specs.Inputs.{IsInput}
+use Rattle.head_fields.specs.Fields.{most_head, most_fields}
+use Rattle.counted_io.specs.Inputs.{IsInput}
 use Rattle.intake.specs.Requests.{HasNoHead}
 use Rattle.intake.specs.Admitting.{Admission, TurnedAway, ForHealth, LetIn, admission_by, admission_of, answer_of, answer_past, asker_at, asks_past, barred_at, command_for, command_in, command_past, is_health}
 use Rattle.intake.specs.Health.{leads_to_health, health_response, health_asks}
 use Rattle.intake.specs.Reaching.{asked_for, may_reach, sent_for}
-use Rattle.doors.specs.declared.askers.Asker.{Asker}
+use Rattle.request_guard.specs.declared.askers.Asker.{Asker}
 use Rattle.intake.specs.Serving.{IsAnswered, IsAskedServed, IsExchange, IsExchangeAfter, IsExchangeOf, IsRequestServed}
 use Rattle.intake.specs.Targets.{Target, target_of, has_body, asked_with, command_with}
 use Rattle.intake.proofs.Heads.{head_within}
-use Rattle.gauges.proofs.InputLemmas.{had_input, more_input}
+use Rattle.counted_io.proofs.InputLemmas.{had_input, more_input}
 use Rattle.intake.proofs.Filling.{own_input}
 use Rattle.intake.proofs.Aimed.{submits_for, to_asker}
 use Rattle.intake.proofs.Answered.{no_memory}
@@ -274,11 +274,13 @@ module _ (access : Access) (known : Option (List ℕ)) (t : Moment) (h : Request
 -- no head, whoever is served: nothing is handed in
 unsent_by : (audience : Audience) (r : Response) (sender : Option Who) → sender ≡ None → TellsSender sender (command_in audience None []) r
 unsent_by Partners r sender none = inl none
+unsent_by Testers r sender none = inl none
 unsent_by Clerks r sender none = inl none
 
 headless : (audience : Audience) (s : Standing) (t : Moment) (r : Response) → r ≡ bare 400
     → IsAnswered s s t (command_in audience None []) (λ L. answer_of audience s.warehouse L None [] t) r
 headless Partners s t r is = at_error s t (bare 400) r is
+headless Testers s t r is = at_error s t (bare 400) r is
 headless Clerks s t r is = at_error s t (bare 400) r is
 
 pub headless_answer : (access : Access) (s : Standing) (t : Moment) (known mid : Option (List ℕ)) (got : List ℕ) (r : Response) (sender : Option Who)

@@ -2,15 +2,15 @@
 use Rattle.std.proofs.Common.{◌≡◌, ◌∙◌, ℕ, List, Some, sym, subst}
 use Rattle.std.specs.Prelude.{Result}
 use Rattle.httparse.specs.Grammar.{RequestHead}
-use Rattle.profile.specs.Response.{Response}
+use Rattle.definitions.specs.Response.{Response}
 use Rattle.store.specs.Standing.{Standing}
 use Rattle.intake.specs.Asking.{asks_in, asks_with, IsShutAnswer}
 use Rattle.intake.specs.Admitting.{asks_for}
 use Rattle.intake.specs.Reaching.{asked_for}
 use Rattle.intake.specs.Fields.{head_of}
 use Rattle.intake.specs.Targets.{asked_with, target_of}
-use Rattle.doors.specs.declared.askers.Asker.{Asker}
-use Rattle.doors.specs.declared.askers.Asker.TheVariants.{Unnamed, Depositor, Unknown}
+use Rattle.request_guard.specs.declared.askers.Asker.{Asker}
+use Rattle.request_guard.specs.declared.askers.Asker.TheVariants.{Unnamed, Depositor, Unknown}
 use Rattle.intake.specs.declared.audience.Audience.{Audience}
 use Rattle.intake.proofs.Aimed.{asked_unnamed}
 

@@ -3,16 +3,16 @@ use Rattle.std.proofs.Common.{◌≡◌, ◌≢◌, ℕ, List, Option, Some, Non
 use Rattle.std.specs.Prelude.{option_map}
 use Rattle.httparse.specs.Grammar.{RequestHead}
 use Rattle.httparse.proofs.GrammarLemmas.{request_unique}
-use Rattle.profile.specs.Header.{Who}
-use Rattle.profile.specs.Moments.{Moment}
-use Rattle.profile.specs.Register.{Entry}
-use Rattle.profile.specs.Response.{asked, Nowhere}
+use Rattle.definitions.specs.Header.{Who}
+use Rattle.definitions.specs.Moments.{Moment}
+use Rattle.definitions.specs.Register.{Entry}
+use Rattle.definitions.specs.Response.{asked, Nowhere}
 use Rattle.intake.specs.Routes.{route_of}
 use Rattle.intake.specs.Fields.{head_of}
 use Rattle.intake.specs.Admitting.{call_submitted, call_answer, command_in, answer_of}
 use Rattle.intake.specs.Serving.{BeginsWith}
 use Rattle.intake.specs.declared.audience.Audience.{Audience}
-use Rattle.intake.specs.declared.audience.Audience.TheVariants.{Partners, Clerks}
+use Rattle.intake.specs.declared.audience.Audience.TheVariants.{Partners, Testers, Clerks}
 use Rattle.intake.proofs.Whole.{calls_nothing}
 
 pub one_thing : (input : List ℕ) (g h : Option RequestHead) (r s : List ℕ) → BeginsWith input g r → BeginsWith input h s
@@ -28,6 +28,7 @@ one_thing input (Some g) (Some h) r s a b =
 pub one_command : (audience : Audience) (input : List ℕ) (g h : Option RequestHead) (r s : List ℕ) → BeginsWith input g r → BeginsWith input h s
     → command_in audience g r ≡ command_in audience h s
 one_command Partners input None None r s a b = refl
+one_command Testers input None None r s a b = refl
 one_command Clerks input None None r s a b = refl
 one_command audience input None (Some h) r s a b = absurd (a h s b)
 one_command audience input (Some g) None r s a b = absurd (b g r a)
@@ -38,6 +39,7 @@ one_command audience input (Some g) (Some h) r s a b =
 pub one_answer : (audience : Audience) (W : Who) (L : List Entry) (t : Moment) (input : List ℕ) (g h : Option RequestHead) (r s : List ℕ) → BeginsWith input g r → BeginsWith input h s
     → answer_of audience W L g r t ≡ answer_of audience W L h s t
 one_answer Partners W L t input None None r s a b = refl
+one_answer Testers W L t input None None r s a b = refl
 one_answer Clerks W L t input None None r s a b = refl
 one_answer audience W L t input None (Some h) r s a b = absurd (a h s b)
 one_answer audience W L t input (Some g) None r s a b = absurd (b g r a)

@@ -4,8 +4,8 @@ use Rattle.std.proofs.lemmas.List.{take_all, length-take-le}
 use Rattle.std.proofs.lemmas.Bool.Decides.{nat_tests}
 use Rattle.std.proofs.lemmas.Bool.{cases_lt}
 use Rattle.std.specs.Io.KnownBytes.{Consumes, IsAtEnd}
-use Rattle.gauges.specs.Inputs.{IsInput}
-use Rattle.gauges.proofs.InputLemmas.{had_input, full}
+use Rattle.counted_io.specs.Inputs.{IsInput}
+use Rattle.counted_io.proofs.InputLemmas.{had_input, full}
 use Rattle.intake.specs.Requests.{FillsBuffer}
 
 pub own_input : (known : Option (List ℕ)) → IsInput known (unwrap_or known [])

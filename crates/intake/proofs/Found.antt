@@ -1,20 +1,22 @@
 -- what is found of a depositor, and under a number
 use Rattle.std.proofs.Common.{◌≡◌, ℕ, List, Option, Some, None, Bool, true, false, refl, sym, ap, subst, ◌∙◌, find, ◌==◌, if◌then◌else◌}
 use Rattle.std.specs.Prelude.{Result, unwrap_or, option_map}
-use Rattle.profile.specs.Bytes.{value}
-use Rattle.profile.specs.Header.{Who, who_of}
-use Rattle.profile.specs.Response.{Response, found_for, bare, content_response, is_plain_number, with_body, x12_type}
-use Rattle.profile.specs.Rows.{OutRow}
-use Rattle.profile.specs.Decision.{standing}
-use Rattle.profile.specs.History.{History}
-use Rattle.profile.specs.Need.{Need, need_of_number}
-use Rattle.profile.specs.declared.refusals.Refusal.{Refusal}
-use Rattle.profile.specs.declared.refusals.Refusal.TheVariants.{UnknownDepositor}
-use Rattle.profile.specs.Register.{Entry, own}
-use Rattle.profile.specs.Reports.{pick_list}
+use Rattle.definitions.specs.Bytes.{value}
+use Rattle.definitions.specs.Header.{Who, who_of}
+use Rattle.definitions.specs.Response.{Response, found_for, bare, content_response, is_plain_number, with_body, x12_type}
+use Rattle.definitions.specs.Rows.{OutRow}
+use Rattle.definitions.specs.Decision.{standing}
+use Rattle.definitions.specs.History.{History}
+use Rattle.definitions.specs.Need.{Need, need_of_number}
+use Rattle.definitions.specs.declared.refusals.Refusal.{Refusal}
+use Rattle.definitions.specs.declared.refusals.Refusal.TheVariants.{UnknownDepositor}
+use Rattle.definitions.specs.Register.{Entry, own}
+use Rattle.definitions.specs.Reports.{pick_list}
 use Rattle.store.specs.Held.{IsHeld}
 use Rattle.intake.specs.Answers.{told_text}
-use Rattle.intake.specs.Calls.{line_response, order_response, picking_response, sheet_response}
+use Rattle.intake.specs.Calls.{line_response, form_by, form_response, order_response, picking_response, sheet_response}
+use Rattle.intake.specs.Forms.{form_need, form_text}
+use Rattle.intake.specs.declared.calls.Form.{Form}
 
 pub found : {X : Type 0} (who : List ℕ) (w : Who) (query : Who → Option X) (x : X) (answer : X → Response)
     → Some w ≡ who_of who → Some x ≡ query w → found_for who query answer ≡ answer x
@@ -63,3 +65,20 @@ unheld L n w o need name held = rw (← name) (by (standing (own L w)) held)
     by : (h : Option History) → IsHeld need None h → line_response 404 UnknownDepositor ≡ picking_response n h
     by None there = refl
     by (Some h) there = absurd there
+
+-- a form, and that of a stranger, in the same way
+module _ (L : List Entry) (form : Form) (n : List ℕ) (w : Who) (o : Option Who) (need : Need) where
+  pub formed : (p : _) (made : Result (List ℕ) Refusal) → Some w ≡ o → need ≡ form_need form n
+      → IsHeld need (Some p) (standing (own L w)) → ((h : History) → IsHeld (form_need form n) (Some p) (Some h) → form_text form h.events n ≡ made) → sheet_response made ≡ form_response L form o n
+  formed p made name of held is = rw (← name) (by (standing (own L w)) held)
+    where
+      by : (h : Option History) → IsHeld need (Some p) h → sheet_response made ≡ form_by form n h
+      by None there = absurd there
+      by (Some h) there = ap sheet_response (sym (is h (subst (λ (k : Need). IsHeld k (Some p) (Some h)) of there)))
+
+  pub unformed : Some w ≡ o → IsHeld need None (standing (own L w)) → line_response 404 UnknownDepositor ≡ form_response L form o n
+  unformed name held = rw (← name) (by (standing (own L w)) held)
+    where
+      by : (h : Option History) → IsHeld need None h → line_response 404 UnknownDepositor ≡ form_by form n h
+      by None there = refl
+      by (Some h) there = absurd there

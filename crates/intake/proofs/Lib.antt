@@ -25,3 +25,4 @@ pub mod Counted
 pub mod Told
 pub mod Probes
 pub mod Others
+pub mod Tried

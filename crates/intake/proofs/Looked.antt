@@ -1,7 +1,7 @@
 -- how a request for the health of the book is served
 use Rattle.std.proofs.Common.{◌≡◌, Bool, false, None, sym, subst, if◌then◌else◌}
-use Rattle.profile.specs.Moments.{Moment}
-use Rattle.profile.specs.Response.{Head, Method, Response, bare}
+use Rattle.definitions.specs.Moments.{Moment}
+use Rattle.definitions.specs.Response.{Head, Method, Response, bare}
 use Rattle.store.specs.Standing.{Standing}
 use Rattle.intake.specs.Asking.{IsShutResponse}
 use Rattle.intake.specs.Health.{health_by, health_response, health_asks, is_get}

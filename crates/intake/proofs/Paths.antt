@@ -11,7 +11,7 @@ use Rattle.matchit.specs.Router.{RouteOf}
 use Rattle.std.specs.List.{list_all}
 use Rattle.std.proofs.lemmas.List.{get_or-append-add}
 use Rattle.matchit.specs.Seek.{first, has_slash, segment}
-use Rattle.profile.specs.Response.{Nowhere}
+use Rattle.definitions.specs.Response.{Nowhere}
 use Rattle.intake.specs.declared.routes.RouteKind.{RouteKind}
 use Rattle.intake.specs.Routes.{table, route_of, route_by_row}
 

@@ -1,11 +1,11 @@
 -- requests for the health of the book, and servers that tell none
 use Rattle.std.proofs.Common.{◌≡◌, ◌⊎◌, ℕ, ◌≤◌, ◌<◌, ◌-◌, ◌^◌, Bool, true, false, ◌&&◌, List, Option, Some, None, Result, Ok, Err, IfOk, OnOk, OnErr, MatchOption, refl, sym, ap, subst, arith, ◌∙◌, inl, inr, bytes_eq, codes}
 use Rattle.httparse.specs.Grammar.{RequestHead}
-use Rattle.doors.specs.declared.barred.Barred.{Barred}
-use Rattle.profile.specs.Header.{Who}
-use Rattle.profile.specs.Moments.{Moment}
-use Rattle.profile.specs.Register.{Entry}
-use Rattle.profile.specs.Response.{Response}
+use Rattle.request_guard.specs.declared.barred.Barred.{Barred}
+use Rattle.definitions.specs.Header.{Who}
+use Rattle.definitions.specs.Moments.{Moment}
+use Rattle.definitions.specs.Register.{Entry}
+use Rattle.definitions.specs.Response.{Response}
 use Rattle.store.specs.Fault.{Fault}
 use Rattle.store.specs.Standing.{Standing, IsUnchanged}
 use Rattle.peers.specs.declared.listener.PeerAddress.{PeerAddress}

@@ -1,9 +1,9 @@
 -- texts of refusals and faults, and what a reply says of the book
 use Rattle.std.proofs.Common.{◌≡◌, ◌≢◌, ℕ, List, ◌++◌, codes, refl, false}
 use Rattle.std.specs.Fmt.{digits}
-use Rattle.profile.specs.Refusals as meant
-use Rattle.profile.specs.Accepted.{is_accepted}
-use Rattle.profile.specs.Response.{with_body, plain_type, refused_response}
+use Rattle.definitions.specs.Refusals as meant
+use Rattle.definitions.specs.Accepted.{is_accepted}
+use Rattle.definitions.specs.Response.{with_body, plain_type, refused_response}
 use Rattle.store.specs.Refusal.{Refusal}
 use Rattle.store.specs.Refusal.TheVariants.{Unreadable, Note, Duplicate, UnknownDepositor, TicketUsed, UnknownAdvice, AdviceClosed, UnknownOrder, OrderClosed, NotReserved, UnknownLot, BelowReserved, NoDifference, TooMuch, RepeatedLine, BadText, TooManyLines, NumbersUsedUp, AlreadyEnrolled}
 use Rattle.store.specs.Runs.{told, UnlessAccepted}
@@ -12,7 +12,7 @@ use Rattle.store.specs.Fault.TheVariants.{OutOfMemory, Store, Reopen, NotThisBoo
 use Rattle.store.specs.declared.serving.Reply.{Reply}
 use Rattle.store.specs.declared.serving.Reply.TheVariants.{Accepted, Stored, Refused}
 use Rattle.intake.specs.Calls.{deed_refused}
-use Rattle.profile.specs.Refusals.{refusal_line, fault_line}
+use Rattle.definitions.specs.Refusals.{refusal_line, fault_line}
 
 pub fault_line_is : (f : Fault) → fault_line f ≡ meant.told_fault f ++ codes "\n"
 unfolding digits

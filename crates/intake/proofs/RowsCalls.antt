@@ -1,18 +1,20 @@
 -- Worked examples: what paths call for, and the statuses of deeds.
 use Rattle.std.specs.Prelude.{◌≡◌, ℕ, List, [], ◌++◌, Some, None, codes}
 use Rattle.std.proofs.Common.{refl}
-use Rattle.profile.specs.declared.sheet_kind.SheetKind.TheVariants.{Count as CountSheet, Pick as PickSheet, Recount as RecountSheet}
-use Rattle.profile.specs.declared.refusals.Refusal.TheVariants.{UnknownDepositor, TicketUsed, UnknownAdvice, OrderClosed, NumbersUsedUp}
-use Rattle.profile.specs.Reply.{Accepted, Stored, Refused}
-use Rattle.profile.specs.Moments.{Moment}
-use Rattle.profile.specs.Register.{Entry}
-use Rattle.profile.specs.Response.{Get, Post, OtherMethod, with_body, plain_type, x12_type, not_allowed}
-use Rattle.profile.specs.declared.rules.Rules.TheVariants.{Two}
-use Rattle.profile.proofs.Sample.{WHSE1, ACME, book}
+use Rattle.definitions.specs.declared.sheet_kind.SheetKind.TheVariants.{Count as CountSheet, Pick as PickSheet, Recount as RecountSheet}
+use Rattle.definitions.specs.declared.refusals.Refusal.TheVariants.{UnknownDepositor, TicketUsed, UnknownAdvice, OrderClosed, BadText, NumbersUsedUp}
+use Rattle.definitions.specs.Reply.{Accepted, Stored, Refused}
+use Rattle.definitions.specs.Moments.{Moment}
+use Rattle.definitions.specs.Register.{Entry}
+use Rattle.definitions.specs.Response.{Get, Post, OtherMethod, with_body, plain_type, x12_type, not_allowed}
+use Rattle.definitions.specs.Rules.{Today}
+use Rattle.definitions.proofs.Sample.{WHSE1, ACME, book}
 use Rattle.std.specs.Fmt.{digits}
-use Rattle.intake.specs.Calls.{ToDeed, ToOrder, ToExport, ToOpen, ToDepositors, call_of, call_resp, deed_reply, open_response}
+use Rattle.page.specs.Pages.{page_text, page_type}
+use Rattle.intake.specs.declared.calls.Form.TheVariants.{ReceivingList, ReceivingCsv, PickingCsv}
+use Rattle.intake.specs.Calls.{ToDeed, ToTriedDeed, ToTriedExchange, ToPage, ToOrder, ToForm, ToExport, ToOpen, ToDepositors, call_command, call_of, call_resp, deed_reply, line_response, open_response}
 
--- The seven paths.
+-- The paths.
 
 a_count : call_of (codes "/count/ZZ-ACME/T1/SHP1") ≡ Some (ToDeed CountSheet (codes "ZZ-ACME") (codes "T1") (codes "SHP1"))
 a_count = refl
@@ -26,6 +28,15 @@ a_recount = refl
 an_order : call_of (codes "/orders/ZZ-ACME/SO100") ≡ Some (ToOrder (codes "ZZ-ACME") (codes "SO100"))
 an_order = refl
 
+a_receiving_list : call_of (codes "/advices/ZZ-ACME/SHP1") ≡ Some (ToForm ReceivingList (codes "ZZ-ACME") (codes "SHP1"))
+a_receiving_list = refl
+
+a_sheet_for_a_count : call_of (codes "/advices/ZZ-ACME/SHP1/csv") ≡ Some (ToForm ReceivingCsv (codes "ZZ-ACME") (codes "SHP1"))
+a_sheet_for_a_count = refl
+
+a_sheet_for_a_pick : call_of (codes "/orders/ZZ-ACME/SO100/csv") ≡ Some (ToForm PickingCsv (codes "ZZ-ACME") (codes "SO100"))
+a_sheet_for_a_pick = refl
+
 an_export : call_of (codes "/stock/ZZ-ACME/csv") ≡ Some (ToExport (codes "ZZ-ACME"))
 an_export = refl
 
@@ -34,6 +45,50 @@ what_is_open = refl
 
 the_depositors : call_of (codes "/depositors") ≡ Some ToDepositors
 the_depositors = refl
+
+the_page : call_of (codes "/") ≡ Some ToPage
+the_page = refl
+
+-- What is tried out.
+
+a_tried_count : call_of (codes "/try/count/ZZ-ACME/T1/SHP1") ≡ Some (ToTriedDeed CountSheet (codes "ZZ-ACME") (codes "T1") (codes "SHP1"))
+a_tried_count = refl
+
+a_tried_pick : call_of (codes "/try/pick/ZZ-ACME/T2/SO100") ≡ Some (ToTriedDeed PickSheet (codes "ZZ-ACME") (codes "T2") (codes "SO100"))
+a_tried_pick = refl
+
+a_tried_recount : call_of (codes "/try/recount/ZZ-ACME/C-3") ≡ Some (ToTriedDeed RecountSheet (codes "ZZ-ACME") (codes "C-3") [])
+a_tried_recount = refl
+
+a_tried_interchange : call_of (codes "/try/x12") ≡ Some ToTriedExchange
+a_tried_interchange = refl
+
+nothing_tried : call_of (codes "/try") ≡ None
+nothing_tried = refl
+
+an_empty_part_tried : call_of (codes "/try/") ≡ None
+an_empty_part_tried = refl
+
+a_slash_after_a_tried_interchange : call_of (codes "/try/x12/") ≡ None
+a_slash_after_a_tried_interchange = refl
+
+tried_twice : call_of (codes "/try/try/count/ZZ-ACME/T1/SHP1") ≡ None
+tried_twice = refl
+
+an_interchange_tried_twice : call_of (codes "/try/try/x12") ≡ None
+an_interchange_tried_twice = refl
+
+a_question_tried : call_of (codes "/try/orders/ZZ-ACME/SO100") ≡ None
+a_question_tried = refl
+
+what_is_open_tried : call_of (codes "/try/open/ZZ-ACME") ≡ None
+what_is_open_tried = refl
+
+the_stock_tried : call_of (codes "/try/stock/ZZ-ACME") ≡ None
+the_stock_tried = refl
+
+the_page_tried : call_of (codes "/try//") ≡ None
+the_page_tried = refl
 
 -- An empty part is one that can't be read.
 
@@ -68,6 +123,15 @@ no_slash_in_front = refl
 
 two_slashes_in_front : call_of (codes "//count/ZZ-ACME/T1/SHP1") ≡ None
 two_slashes_in_front = refl
+
+another_form : call_of (codes "/orders/ZZ-ACME/SO100/txt") ≡ None
+another_form = refl
+
+another_sheet_as_csv : call_of (codes "/open/ZZ-ACME/SO100/csv") ≡ None
+another_sheet_as_csv = refl
+
+an_advice_tried : call_of (codes "/try/advices/ZZ-ACME/SHP1/csv") ≡ None
+an_advice_tried = refl
 
 another_export : call_of (codes "/stock/ZZ-ACME/txt") ≡ None
 another_export = refl
@@ -140,19 +204,25 @@ unfolding digits
 open_of_a_stranger = refl
 
 -- a newcomer has nothing open
-open_of_a_newcomer : (t : Moment) → call_resp WHSE1 (book Two []) Get (ToOpen (codes "ZZ-ACME")) [] t
+open_of_a_newcomer : (t : Moment) → call_resp WHSE1 (book Today []) Get (ToOpen (codes "ZZ-ACME")) [] t
     ≡ with_body 200 plain_type (codes "advice                 lines        expected order\n" ++ codes "order                  lines ship to\n")
 open_of_a_newcomer t = refl
 
 nobody_is_enrolled : (t : Moment) → call_resp WHSE1 [] Get ToDepositors [] t ≡ with_body 200 plain_type []
 nobody_is_enrolled t = refl
 
-one_is_enrolled : (t : Moment) → call_resp WHSE1 (book Two []) Get ToDepositors [] t ≡ with_body 200 plain_type (codes "ZZ-ACME\n")
+one_is_enrolled : (t : Moment) → call_resp WHSE1 (book Today []) Get ToDepositors [] t ≡ with_body 200 plain_type (codes "ZZ-ACME\n")
 one_is_enrolled t = refl
 
 -- They are shown by GET alone.
 
 module _ (L : List Entry) (who body : List ℕ) (t : Moment) where
+  a_form_of_what_cannot_be_read : call_resp WHSE1 L Get (ToForm ReceivingList who []) body t ≡ line_response 404 BadText
+  a_form_of_what_cannot_be_read = refl
+
+  a_form_posted : call_resp WHSE1 L Post (ToForm PickingCsv who who) body t ≡ not_allowed (codes "GET")
+  a_form_posted = refl
+
   open_posted : call_resp WHSE1 L Post (ToOpen who) body t ≡ not_allowed (codes "GET")
   open_posted = refl
 
@@ -164,3 +234,27 @@ module _ (L : List Entry) (who body : List ℕ) (t : Moment) where
 
   depositors_otherwise : call_resp WHSE1 L OtherMethod ToDepositors body t ≡ not_allowed (codes "GET")
   depositors_otherwise = refl
+
+  the_page_got : call_resp WHSE1 L Get ToPage body t ≡ with_body 200 page_type page_text
+  the_page_got = refl
+
+  the_page_posted : call_resp WHSE1 L Post ToPage body t ≡ not_allowed (codes "GET")
+  the_page_posted = refl
+
+  the_page_otherwise : call_resp WHSE1 L OtherMethod ToPage body t ≡ not_allowed (codes "GET")
+  the_page_otherwise = refl
+
+-- What is tried out is posted alone, and nothing is submitted.
+
+module _ (L : List Entry) (who ticket number body : List ℕ) (t : Moment) where
+  a_tried_count_got : call_resp WHSE1 L Get (ToTriedDeed CountSheet who ticket number) body t ≡ not_allowed (codes "POST")
+  a_tried_count_got = refl
+
+  a_tried_interchange_got : call_resp WHSE1 L Get ToTriedExchange body t ≡ not_allowed (codes "POST")
+  a_tried_interchange_got = refl
+
+  a_tried_pick_submits_nothing : call_command Post (ToTriedDeed PickSheet who ticket number) body ≡ None
+  a_tried_pick_submits_nothing = refl
+
+  a_tried_interchange_submits_nothing : call_command Post ToTriedExchange body ≡ None
+  a_tried_interchange_submits_nothing = refl

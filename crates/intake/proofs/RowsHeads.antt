@@ -7,7 +7,7 @@ use Rattle.std.proofs.lemmas.List.Sums.{AllPass-from_list_all}
 use Rattle.httparse.proofs.OnLiterals.{httparse_on_literals}
 use Rattle.httparse.proofs.GrammarLemmas.{request_unique, print_request-append, ReadsRequest-append}
 use Rattle.httparse.specs.Grammar.{LineEnd, crlf, lf, IsToken, Field, IsField, IsRequestHead, ReadsRequest, RequestHead, is_token_byte, is_uri_byte, is_value_byte, print_blank, print_field, print_request}
-use Rattle.profile.specs.Response.{Post, OtherMethod, stated_length}
+use Rattle.definitions.specs.Response.{Post, OtherMethod, stated_length}
 use Rattle.intake.specs.Fields.{head_of}
 use Rattle.intake.specs.Requests.{HasRequestHead, HasNoHead}
 

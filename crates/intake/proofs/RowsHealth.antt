@@ -3,10 +3,10 @@ use Rattle.std.specs.Prelude.{◌≡◌, ℕ, true, false, List, [], Some, None,
 use Rattle.std.proofs.Common.{refl}
 use Rattle.std.specs.Fmt.{digits}
 use Rattle.httparse.specs.Grammar.{RequestHead, crlf}
-use Rattle.profile.specs.Moments.{Moment}
-use Rattle.profile.specs.Register.{Entry}
-use Rattle.profile.specs.Response.{Post, OtherMethod, not_allowed, plain_type, with_body}
-use Rattle.profile.proofs.Sample.{WHSE1}
+use Rattle.definitions.specs.Moments.{Moment}
+use Rattle.definitions.specs.Register.{Entry}
+use Rattle.definitions.specs.Response.{Post, OtherMethod, not_allowed, plain_type, with_body}
+use Rattle.definitions.proofs.Sample.{WHSE1}
 use Rattle.intake.specs.declared.audience.Access.{Access}
 use Rattle.intake.specs.Admitting.{answer_by, asks_by, command_by, is_health_by, of_partners}
 use Rattle.intake.specs.Health.{extent_text, health_by, health_text}

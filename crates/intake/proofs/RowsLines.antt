@@ -1,8 +1,8 @@
 -- Worked examples: who sent an interchange, as a line tells it.
 use Rattle.std.specs.Prelude.{◌≡◌, ◌++◌, Some, None, codes, take, drop}
 use Rattle.std.proofs.Common.{refl}
-use Rattle.profile.specs.Register.{Interchange, Enrol}
-use Rattle.profile.proofs.Sample.{ACME, first_advice}
+use Rattle.definitions.specs.Register.{Interchange, Enrol}
+use Rattle.definitions.proofs.Sample.{ACME, first_advice}
 use Rattle.intake.specs.Lines.{sender_in, sender_text}
 
 from_acme : sender_in (Some (Interchange first_advice)) ≡ Some ACME

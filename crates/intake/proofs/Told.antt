@@ -4,7 +4,7 @@ use Rattle.std.specs.List.{FoldsTo}
 use Rattle.std.proofs.lemmas.Fn.{FoldsTo-push}
 use Rattle.std.proofs.lemmas.List.{length_push, map-append}
 use Rattle.std.proofs.lemmas.List.Elements.{All-push}
-use Rattle.profile.specs.Moments.{Moment}
+use Rattle.definitions.specs.Moments.{Moment}
 use Rattle.store.specs.Standing.{Standing, IsUnchanged}
 use Rattle.intake.specs.declared.audience.Access.{Access}
 use Rattle.intake.specs.declared.served.Connection.{Connection}

@@ -1,5 +1,5 @@
 -- a path that leads to a route which is always served calls for nothing
-use Rattle.std.proofs.Common.{◌≡◌, ◌≢◌, ℕ, zero, suc, ◌-◌, ◌<◌, List, [], ◌∷◌, ◌++◌, drop, Option, Some, None, Bool, true, false, cond, refl, sym, ap, subst, inl, inr, ◌∙◌, arith, ltb, length, ◌==◌, codes}
+use Rattle.std.proofs.Common.{◌≡◌, ◌≢◌, ℕ, zero, suc, ◌-◌, ◌<◌, List, [], ◌∷◌, ◌++◌, drop, Option, Some, None, Bool, true, false, cond, refl, sym, ap, subst, inl, inr, ◌∙◌, arith, ltb, length, ◌==◌, codes, if◌then◌else◌}
 use Rattle.std.proofs.lemmas.Bool.Decides.{nat_tests}
 use Rattle.std.specs.List.{list_all, onto_first}
 use Rattle.std.specs.Str.{is_utf8}
@@ -7,11 +7,12 @@ use Rattle.matchit.proofs.OnLiterals.{matchit_on_literals}
 use Rattle.matchit.specs.Rows.{RowsOf, param_token, catch_all_token}
 use Rattle.matchit.specs.Router.{RouteOf}
 use Rattle.matchit.specs.Seek.{first, own, step, seek, slash, param_step, has_slash, with_suffix, longest_suffix, segment, same_text}
-use Rattle.profile.specs.Readings.{parts_at}
-use Rattle.profile.specs.Response.{Nowhere}
+use Rattle.definitions.specs.Readings.{parts_at}
+use Rattle.definitions.specs.Response.{Method, Get, Post, OtherMethod, Nowhere, is_exchange}
 use Rattle.intake.specs.Calls.{call_of, call_in}
-use Rattle.intake.specs.Routes.{table, route_of}
+use Rattle.intake.specs.Routes.{table, route_of, route_by, route_by_row}
 use Rattle.intake.specs.declared.routes.RouteKind.{RouteKind}
+use Rattle.intake.specs.declared.routes.RouteKind.TheVariants.{Exchange, Stock, Outbox, Content}
 use Rattle.intake.proofs.Seeking.{IsIn, own_in, step_in, param_in, by_either}
 
 -- as `Fits`, to the end of the path, and the last parameter takes no slash
@@ -152,3 +153,40 @@ calls_nothing path not = by (is_utf8 path) refl (first table path) refl
     by false e o f = absurd (not (rw e refl))
     by true e None f = absurd (not (rw (e, f) refl))
     by true e (Some r) f = row_calls path r (whole_in 0 table path r f)
+
+-- One path leads to where interchanges are handed in.
+
+exchange_row : (path : List ℕ) (r : RouteOf RouteKind) → Whole table path r → r.value ≡ Exchange → path ≡ codes "/x12"
+unfolding matchit_on_literals
+exchange_row path r (t, inl e, f) is = let other : r.value ≡ Content = ap (λ (q : List ℕ × RouteOf RouteKind). (q.1).value) e in absurd (cc)
+exchange_row path r (t, inr (inl e), f) is = let other : r.value ≡ Outbox = ap (λ (q : List ℕ × RouteOf RouteKind). (q.1).value) e in absurd (cc)
+exchange_row path r (t, inr (inr (inl e)), f) is = let other : r.value ≡ Stock = ap (λ (q : List ℕ × RouteOf RouteKind). (q.1).value) e in absurd (cc)
+exchange_row path r (t, inr (inr (inr (inl e))), f) is =
+    let fits = ends_text (codes "/x12") [] path refl (subst (λ (w : List ℕ). Ends w path) (ap (λ (q : List ℕ × RouteOf RouteKind). q.0) e) f) in
+    fits.1 ∙ ap (λ (l : List ℕ). codes "/x12" ++ l) fits.2
+exchange_row path r (t, inr (inr (inr (inr none))), f) is = absurd none
+
+exchange_kind : (m : Method) (k : RouteKind) (parts : List (List ℕ × List ℕ)) → is_exchange m (route_by k parts) ≡ true → k ≡ Exchange
+exchange_kind m Exchange parts e = refl
+exchange_kind Post Stock parts e = cc
+exchange_kind Post Outbox parts e = cc
+exchange_kind Post Content parts e = cc
+exchange_kind Get Stock parts e = cc
+exchange_kind Get Outbox parts e = cc
+exchange_kind Get Content parts e = cc
+exchange_kind OtherMethod Stock parts e = cc
+exchange_kind OtherMethod Outbox parts e = cc
+exchange_kind OtherMethod Content parts e = cc
+
+not_nowhere : (m : Method) → is_exchange m Nowhere ≡ true → ⊥
+not_nowhere Post e = cc
+not_nowhere Get e = cc
+not_nowhere OtherMethod e = cc
+
+pub exchange_path : (m : Method) (path : List ℕ) → is_exchange m (route_of path) ≡ true → path ≡ codes "/x12"
+exchange_path m path = by (is_utf8 path) (first table path) refl
+  where
+    by : (b : Bool) (o : Option (RouteOf RouteKind)) → first table path ≡ o → is_exchange m (if b then route_by_row path o else Nowhere) ≡ true → path ≡ codes "/x12"
+    by false o f e = absurd (not_nowhere m e)
+    by true None f e = absurd (not_nowhere m e)
+    by true (Some r) f e = exchange_row path r (whole_in 0 table path r f) (exchange_kind m r.value _ e)

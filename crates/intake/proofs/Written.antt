@@ -2,7 +2,7 @@
 use Rattle.std.proofs.Common.{◌≡◌, ◌≤◌, ◌<◌, ◌^◌, lit≤, List, ℕ, Option, Some, None, decimal, length, length-append, append_assoc, append-nil, refl, ap, sym, ◌∙◌, ◌++◌, [], codes, arith}
 use Rattle.std.specs.Option.{option_map, option_to_list}
 use Rattle.std.specs.List.{flat_map}
-use Rattle.profile.specs.Response.{status_text, response_bytes, body_headers, header, phrase}
+use Rattle.definitions.specs.Response.{status_text, response_bytes, body_headers, header, phrase}
 use Rattle.intake.specs.Answers.{fixed_text, parts, seen, type_text, length_text, type_end, allow_text, method_name, number, body_bytes}
 use Rattle.intake.specs.declared.response.Response.{Response}
 use Rattle.intake.specs.declared.response.Status.{Status}
@@ -11,7 +11,7 @@ use Rattle.intake.specs.declared.response.Status.TheVariants.{Okay, NoContent, B
 use Rattle.intake.specs.declared.response.Body.{Body}
 use Rattle.intake.specs.declared.response.MediaType.{MediaType}
 use Rattle.intake.specs.declared.response.Allow.{Allow}
-use Rattle.intake.specs.declared.response.MediaType.TheVariants.{Plain, Interchange}
+use Rattle.intake.specs.declared.response.MediaType.TheVariants.{Plain, Interchange, Page}
 use Rattle.intake.specs.declared.response.Allow.TheVariants.{Get, Post}
 
 abbrev answer : Status → Option MediaType → Option Allow → Body → Response
@@ -29,6 +29,7 @@ fields : (s : Status) (k : Option MediaType) (a : Option Allow) (b : Body) (rest
 fields s None a b rest = refl
 fields s (Some Plain) a b rest = ap (λ l. type_text (Some Plain) ++ l) (sym (append_assoc (decimal (length (body_bytes b))) (codes "\r\n") rest))
 fields s (Some Interchange) a b rest = ap (λ l. type_text (Some Interchange) ++ l) (sym (append_assoc (decimal (length (body_bytes b))) (codes "\r\n") rest))
+fields s (Some Page) a b rest = ap (λ l. type_text (Some Page) ++ l) (sym (append_assoc (decimal (length (body_bytes b))) (codes "\r\n") rest))
 
 allowed : (a : Option Allow) → allow_text a ≡ flat_map (header (codes "Allow")) (option_to_list (option_map method_name a))
 allowed None = refl
@@ -67,10 +68,11 @@ phrase_short UnprocessableEntity = lit≤ tt
 phrase_short NotImplemented = lit≤ tt
 phrase_short ServiceUnavailable = lit≤ tt
 
-type_short : (k : Option MediaType) → length (type_text k) ≤ 60
+type_short : (k : Option MediaType) → length (type_text k) ≤ 4096
 type_short None = lit≤ tt
 type_short (Some Plain) = lit≤ tt
 type_short (Some Interchange) = lit≤ tt
+type_short (Some Page) = lit≤ tt
 
 length_short : (k : Option MediaType) (digits : List ℕ) → length digits ≤ 40 → length (length_text k digits) ≤ 40
 length_short None digits h = lit≤ tt

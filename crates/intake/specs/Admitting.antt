@@ -2,29 +2,29 @@
 use Rattle.std.specs.Prelude.{ℕ, Bool, true, false, List, Option, Some, None, map, option_map}
 use Rattle.httparse.specs.Grammar.{RequestHead}
 use Rattle.httparse.specs.Spans.{name_and_value}
-use Rattle.doors.specs.Doors.{barred_of, names_of, status_of}
-use Rattle.doors.specs.declared.barred.Barred.{Barred}
-use Rattle.doors.specs.declared.judging.Doors.{Doors}
-use Rattle.profile.specs.declared.rules.Rules.TheVariants.{Two}
-use Rattle.profile.specs.Moments.{Moment}
-use Rattle.profile.specs.Header.{Who}
-use Rattle.profile.specs.Register.{Command, Entry, Interchange}
-use Rattle.profile.specs.Response.{Response, bare, response_to, submitted}
+use Rattle.request_guard.specs.Doors.{barred_of, names_of, status_of}
+use Rattle.request_guard.specs.declared.barred.Barred.{Barred}
+use Rattle.request_guard.specs.declared.judging.Doors.{Doors}
+use Rattle.definitions.specs.Rules.{Today}
+use Rattle.definitions.specs.Moments.{Moment}
+use Rattle.definitions.specs.Header.{Who}
+use Rattle.definitions.specs.Register.{Command, Entry, Interchange}
+use Rattle.definitions.specs.Response.{Response, bare, response_to, submitted}
 use Rattle.intake.specs.Reaching.{asked_for}
-use Rattle.doors.specs.Askers.{asker_of}
+use Rattle.request_guard.specs.Askers.{asker_of}
 use Rattle.intake.specs.Asking.{asks_in, asks_with}
 use Rattle.intake.specs.Calls.{Call, call_of}
 use Rattle.intake.specs.Fields.{head_of}
 use Rattle.intake.specs.Health.{leads_to_health, health_response, health_asks}
-use Rattle.intake.specs.Targets.{ToCall, asked_with, command_with, response_with, target_of}
-use Rattle.doors.specs.declared.askers.Asker.{Asker}
-use Rattle.doors.specs.declared.askers.Asker.TheVariants.{Unnamed}
+use Rattle.intake.specs.Targets.{ToCall, asked_with, call_for, command_with, response_with, target_of}
+use Rattle.request_guard.specs.declared.askers.Asker.{Asker}
+use Rattle.request_guard.specs.declared.askers.Asker.TheVariants.{Unnamed}
 use Rattle.intake.specs.declared.audience.Access.{Access}
 use Rattle.intake.specs.declared.audience.Audience.{Audience}
-use Rattle.intake.specs.declared.audience.Audience.TheVariants.{Partners, Clerks}
+use Rattle.intake.specs.declared.audience.Audience.TheVariants.{Partners, Testers, Clerks}
 
--- By partners an interchange or a route, as ever; by clerks the same, but where a path calls for
--- something.
+-- By partners an interchange or a route, as ever; by others the same, but where a path calls for
+-- something: by partners who may try an interchange out for that alone.
 
 abbrev pub call_submitted : Option Call → RequestHead → List ℕ → Option Command
 call_submitted None h rest = option_map Interchange (submitted (Some (head_of h)) rest)
@@ -32,20 +32,24 @@ call_submitted (Some call) h rest =
     command_with (head_of h).method (ToCall call) (asked_with (head_of h) (ToCall call) rest)
 
 abbrev pub call_answer : Option Call → Who → List Entry → RequestHead → List ℕ → Moment → Response
-call_answer None W L h rest t = response_to Two W L (Some (head_of h)) rest t
+call_answer None W L h rest t = response_to Today W L (Some (head_of h)) rest t
 call_answer (Some call) W L h rest t =
     response_with W L (head_of h).method (ToCall call) t (asked_with (head_of h) (ToCall call) rest)
 
 -- the command that a request submits, by its head, if that is good, and the bytes after it
 abbrev pub command_in : Audience → Option RequestHead → List ℕ → Option Command
 command_in Partners head rest = option_map Interchange (submitted (option_map head_of head) rest)
+command_in Testers None rest = None
+command_in Testers (Some h) rest = call_submitted (call_for Testers h.target) h rest
 command_in Clerks None rest = None
 command_in Clerks (Some h) rest = call_submitted (call_of h.target) h rest
 
 -- the response to it
 abbrev pub answer_of : Audience → Who → List Entry → Option RequestHead → List ℕ → Moment → Response
-answer_of Partners W L head rest t = response_to Two W L (option_map head_of head) rest t
-answer_of Clerks W L None rest t = response_to Two W L None rest t
+answer_of Partners W L head rest t = response_to Today W L (option_map head_of head) rest t
+answer_of Testers W L None rest t = response_to Today W L None rest t
+answer_of Testers W L (Some h) rest t = call_answer (call_for Testers h.target) W L h rest t
+answer_of Clerks W L None rest t = response_to Today W L None rest t
 answer_of Clerks W L (Some h) rest t = call_answer (call_of h.target) W L h rest t
 
 -- For whom requests are asked.

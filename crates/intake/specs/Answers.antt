@@ -1,10 +1,11 @@
 -- What a response says, and the texts that it is written by.
 use Rattle.std.specs.Prelude.{ℕ, List, [], ◌++◌, Option, Some, None, codes, option_map}
-use Rattle.profile.specs.Response.{Response, bare, header, phrase, plain_type, with_body, x12_type}
+use Rattle.definitions.specs.Response.{Response, bare, header, phrase, plain_type, with_body, x12_type}
+use Rattle.page.specs.Pages.{page_type}
 use Rattle.intake.specs.declared.response.Status.{Status}
 use Rattle.intake.specs.declared.response.Status.TheVariants.{Okay, NoContent, BadRequest, Forbidden, NotFound, MethodNotAllowed, Conflict, LengthRequired, PayloadTooLarge, MisdirectedRequest, UnprocessableEntity, NotImplemented, ServiceUnavailable}
 use Rattle.intake.specs.declared.response.MediaType.{MediaType}
-use Rattle.intake.specs.declared.response.MediaType.TheVariants.{Plain, Interchange}
+use Rattle.intake.specs.declared.response.MediaType.TheVariants.{Plain, Interchange, Page}
 use Rattle.intake.specs.declared.response.Allow.{Allow}
 use Rattle.intake.specs.declared.response.Allow.TheVariants.{Get, Post}
 use Rattle.intake.specs.declared.response.Body.{Body}
@@ -29,6 +30,7 @@ number ServiceUnavailable = 503
 abbrev pub type_name : MediaType → List ℕ
 type_name Plain = plain_type
 type_name Interchange = x12_type
+type_name Page = page_type
 
 abbrev pub method_name : Allow → List ℕ
 method_name Get = codes "GET"

@@ -2,13 +2,13 @@
 -- them.
 use Rattle.std.specs.Prelude.{◌≡◌, ◌⊎◌, ℕ, Bool, true, false, ◌&&◌, List, Option, Some, None, Result, Ok, Err, is_some}
 use Rattle.httparse.specs.Grammar.{RequestHead}
-use Rattle.profile.specs.Header.{who_of}
-use Rattle.profile.specs.Register.{Command}
-use Rattle.profile.specs.Response.{Method, Get, Post, Route, ToExchange, ToStock, ToOutbox, ToContent, Response, is_plain_number, fault_response}
+use Rattle.definitions.specs.Header.{who_of}
+use Rattle.definitions.specs.Register.{Command}
+use Rattle.definitions.specs.Response.{Method, Get, Post, Route, ToExchange, ToStock, ToOutbox, ToContent, Response, is_plain_number, fault_response}
 use Rattle.store.specs.Standing.{Standing}
 use Rattle.store.specs.Fault.{Fault}
 use Rattle.store.specs.Fault.TheVariants.{OutOfMemory, Reopen}
-use Rattle.intake.specs.Calls.{Call, ToDeed, ToOrder, ToExport, ToOpen, ToDepositors, deed_of, owner_of}
+use Rattle.intake.specs.Calls.{Call, ToDeed, ToTriedDeed, ToTriedExchange, ToOrder, ToForm, ToExport, ToOpen, ToDepositors, deed_of, owner_of}
 use Rattle.intake.specs.Fields.{head_of}
 use Rattle.intake.specs.Targets.{Target, ToRoute, ToCall, asked_with, target_of}
 use Rattle.intake.specs.declared.audience.Audience.{Audience}
@@ -27,11 +27,16 @@ abbrev pub deed_asks : Result Command Response → Bool
 deed_asks (Ok c) = true
 deed_asks (Err r) = false
 
--- and what clerks are shown, where the parts of the path can be read
+-- the same tried out, an interchange that is, and what clerks are shown, where the parts of the
+-- path can be read; the page is no part of the book
 abbrev pub call_asks : Method → Call → List ℕ → Bool
 call_asks Post (ToDeed kind who ticket number) body =
     deed_asks (deed_of kind who ticket number body)
+call_asks Post (ToTriedDeed kind who ticket number) body =
+    deed_asks (deed_of kind who ticket number body)
+call_asks Post ToTriedExchange body = true
 call_asks Get (ToOrder who number) body = is_some (owner_of who number)
+call_asks Get (ToForm form who number) body = is_some (owner_of who number)
 call_asks Get (ToExport who) body = is_some (who_of who)
 call_asks Get (ToOpen who) body = is_some (who_of who)
 call_asks Get ToDepositors body = true

@@ -1,27 +1,31 @@
 -- What clerks ask for by the path of a request, and what they are answered.
 use Rattle.std.specs.Prelude.{ℕ, Bool, true, false, ◌&&◌, ◌==◌, List, [], ◌∷◌, ◌++◌, length, if◌then◌else◌, Option, Some, None, Result, Ok, Err, codes, bytes_eq}
-use Rattle.profile.specs.declared.rules.Rules.TheVariants.{Two}
-use Rattle.profile.specs.Accepted.{reply_to}
-use Rattle.profile.specs.Bytes.{is_identifier}
-use Rattle.profile.specs.declared.sheet_kind.SheetKind.{SheetKind}
-use Rattle.profile.specs.declared.sheet_kind.SheetKind.TheVariants.{Count as CountSheet, Pick as PickSheet, Recount as RecountSheet}
-use Rattle.profile.specs.Decision.{standing}
-use Rattle.profile.specs.Header.{Who, who_of}
-use Rattle.profile.specs.History.{History}
-use Rattle.profile.specs.Limits.{most_ticket, most_number}
-use Rattle.profile.specs.Means.{Line}
-use Rattle.profile.specs.Moments.{Moment}
-use Rattle.profile.specs.Readings.{parts_at}
-use Rattle.profile.specs.Refusals.{told_refusal}
-use Rattle.profile.specs.declared.refusals.Refusal.{Refusal}
-use Rattle.profile.specs.declared.refusals.Refusal.TheVariants.{UnknownDepositor, TicketUsed, BadText}
-use Rattle.profile.specs.Register.{Act, Count, Pick, Recount, Command, Clerk, Entry, own}
-use Rattle.profile.specs.Reply.{Reply, Accepted, Stored, Refused}
-use Rattle.profile.specs.Reports.{pick_list, stock_csv}
-use Rattle.profile.specs.Response.{Method, Get, Post, Response, with_body, plain_type, x12_type, refused_response, found_for, not_allowed}
-use Rattle.profile.specs.Rows.{stock_of}
+use Rattle.definitions.specs.Rules.{Today}
+use Rattle.definitions.specs.Accepted.{reply_to}
+use Rattle.definitions.specs.Bytes.{is_identifier}
+use Rattle.definitions.specs.declared.sheet_kind.SheetKind.{SheetKind}
+use Rattle.definitions.specs.declared.sheet_kind.SheetKind.TheVariants.{Count as CountSheet, Pick as PickSheet, Recount as RecountSheet}
+use Rattle.definitions.specs.Decision.{standing}
+use Rattle.definitions.specs.Header.{Who, who_of}
+use Rattle.definitions.specs.History.{History}
+use Rattle.definitions.specs.Limits.{most_ticket, most_number}
+use Rattle.definitions.specs.Means.{Line}
+use Rattle.definitions.specs.Moments.{Moment}
+use Rattle.definitions.specs.Readings.{parts_at}
+use Rattle.definitions.specs.Refusals.{told_refusal}
+use Rattle.definitions.specs.declared.refusals.Refusal.{Refusal}
+use Rattle.definitions.specs.declared.refusals.Refusal.TheVariants.{UnknownDepositor, TicketUsed, BadText}
+use Rattle.definitions.specs.Register.{Act, Count, Pick, Recount, Command, Clerk, Interchange, Entry, own}
+use Rattle.definitions.specs.Reply.{Reply, Accepted, Stored, Refused}
+use Rattle.definitions.specs.Reports.{pick_list, stock_csv}
+use Rattle.definitions.specs.Response.{Method, Get, Post, Response, with_body, plain_type, x12_type, refused_response, reply_response, found_for, not_allowed}
+use Rattle.definitions.specs.Rows.{stock_of}
+use Rattle.page.specs.Pages.{page_text, page_type}
 use Rattle.reports.specs.Open.{open_report, depositor_list}
 use Rattle.sheet_texts.specs.Texts.{sheet_of_text}
+use Rattle.intake.specs.Forms.{form_text}
+use Rattle.intake.specs.declared.calls.Form.{Form}
+use Rattle.intake.specs.declared.calls.Form.TheVariants.{ReceivingList, ReceivingCsv, PickingCsv}
 use Rattle.store.specs.Open.{OpenWork, open_of, enrolled}
 
 -- Paths.
@@ -31,8 +35,16 @@ pub data Call : Type 0 where
   -- /count/{who}/{ticket}/{shipment}, /pick/{who}/{ticket}/{order}, and /recount/{who}/{ticket},
   -- which has no number
   ToDeed : SheetKind → List ℕ → List ℕ → List ℕ → Call
+  -- the same after /try: it is answered and not done
+  ToTriedDeed : SheetKind → List ℕ → List ℕ → List ℕ → Call
+  -- /try/x12
+  ToTriedExchange : Call
+  -- /
+  ToPage : Call
   -- /orders/{who}/{order}
   ToOrder : List ℕ → List ℕ → Call
+  -- /advices/{who}/{shipment}, the same and /csv, and /orders/{who}/{order}/csv
+  ToForm : Form → List ℕ → List ℕ → Call
   -- /stock/{who}/csv
   ToExport : List ℕ → Call
   -- /open/{who}
@@ -42,7 +54,9 @@ pub data Call : Type 0 where
 
 -- of one part
 abbrev pub call_of_one : List ℕ → Option Call
-call_of_one name = if bytes_eq name (codes "depositors") then Some ToDepositors else None
+call_of_one name =
+    if length name == 0 then Some ToPage
+    else (if bytes_eq name (codes "depositors") then Some ToDepositors else None)
 
 -- of two
 abbrev pub call_of_two : List ℕ → List ℕ → Option Call
@@ -53,22 +67,49 @@ abbrev pub call_of_three : List ℕ → List ℕ → List ℕ → Option Call
 call_of_three name who last =
     if bytes_eq name (codes "recount") then Some (ToDeed RecountSheet who last [])
     else (if bytes_eq name (codes "orders") then Some (ToOrder who last)
+    else (if bytes_eq name (codes "advices") then Some (ToForm ReceivingList who last)
     else (if bytes_eq name (codes "stock") && bytes_eq last (codes "csv") then Some (ToExport who)
-    else None))
+    else None)))
+
+-- of four, the last of which is csv
+abbrev pub form_of : List ℕ → List ℕ → List ℕ → List ℕ → Option Call
+form_of name who number last =
+    if bytes_eq name (codes "advices") && bytes_eq last (codes "csv")
+    then Some (ToForm ReceivingCsv who number)
+    else (if bytes_eq name (codes "orders") && bytes_eq last (codes "csv")
+    then Some (ToForm PickingCsv who number)
+    else None)
 
 -- of four
 abbrev pub call_of_four : List ℕ → List ℕ → List ℕ → List ℕ → Option Call
-call_of_four name who ticket number =
-    if bytes_eq name (codes "count") then Some (ToDeed CountSheet who ticket number)
-    else (if bytes_eq name (codes "pick") then Some (ToDeed PickSheet who ticket number) else None)
+call_of_four name who middle last =
+    if bytes_eq name (codes "count") then Some (ToDeed CountSheet who middle last)
+    else (if bytes_eq name (codes "pick") then Some (ToDeed PickSheet who middle last)
+    else form_of name who middle last)
+
+-- by the parts after the first slash, where it isn't to be tried out alone
+abbrev pub call_to_do : List (List ℕ) → Option Call
+call_to_do (name ∷ []) = call_of_one name
+call_to_do (name ∷ who ∷ []) = call_of_two name who
+call_to_do (name ∷ who ∷ last ∷ []) = call_of_three name who last
+call_to_do (name ∷ who ∷ middle ∷ last ∷ []) = call_of_four name who middle last
+call_to_do parts = None
+
+-- a deed, tried out; nothing else that is called for can be
+abbrev pub tried : Option Call → Option Call
+tried (Some (ToDeed kind who ticket number)) = Some (ToTriedDeed kind who ticket number)
+tried call = None
+
+-- by the parts after /try: an interchange or a deed
+abbrev pub call_to_try : List (List ℕ) → Option Call
+call_to_try (name ∷ []) = if bytes_eq name (codes "x12") then Some ToTriedExchange else None
+call_to_try parts = tried (call_to_do parts)
 
 -- by the parts after the first slash
 abbrev pub call_of_parts : List (List ℕ) → Option Call
-call_of_parts (name ∷ []) = call_of_one name
-call_of_parts (name ∷ who ∷ []) = call_of_two name who
-call_of_parts (name ∷ who ∷ last ∷ []) = call_of_three name who last
-call_of_parts (name ∷ who ∷ ticket ∷ number ∷ []) = call_of_four name who ticket number
-call_of_parts parts = None
+call_of_parts [] = None
+call_of_parts (name ∷ parts) =
+    if bytes_eq name (codes "try") then call_to_try parts else call_to_do (name ∷ parts)
 
 -- nothing stands before the first slash
 abbrev pub call_in : List (List ℕ) → Option Call
@@ -109,7 +150,7 @@ abbrev pub by_depositor : SheetKind → Option Who → List ℕ → List ℕ →
     → Result Command Response
 by_depositor kind None ticket number body = Err (line_response 404 BadText)
 by_depositor kind (Some w) ticket number body =
-    with_sheet kind w ticket number (sheet_of_text Two kind body)
+    with_sheet kind w ticket number (sheet_of_text Today kind body)
 
 -- the command of a deed, its sheet being the body; or the response of the first test that fails: a
 -- part of the path that can't be read, and what keeps the text from being a sheet
@@ -130,7 +171,7 @@ deed_reply (Stored text) = with_body 200 x12_type text
 deed_reply (Refused r text) = deed_refused r text
 
 abbrev pub deed_response : Who → List Entry → Moment → Result Command Response → Response
-deed_response W L t (Ok c) = deed_reply (reply_to Two W L c t)
+deed_response W L t (Ok c) = deed_reply (reply_to Today W L c t)
 deed_response W L t (Err r) = r
 
 abbrev pub deed_command : Result Command Response → Option Command
@@ -139,7 +180,7 @@ deed_command (Err r) = None
 
 -- Picking sheets.
 
--- the depositor whose order is named; none where a part of the path can't be read
+-- the depositor whose order or advice is named; none where a part of the path can't be read
 abbrev pub owner_of : List ℕ → List ℕ → Option Who
 owner_of who number = if is_identifier 1 most_number number then who_of who else None
 
@@ -155,6 +196,17 @@ picking_response number (Some h) = sheet_response (pick_list h.events number)
 abbrev pub order_response : List Entry → Option Who → List ℕ → Response
 order_response L None number = line_response 404 BadText
 order_response L (Some w) number = picking_response number (standing (own L w))
+
+-- Forms.
+
+-- by the history of the depositor; a stranger has none
+abbrev pub form_by : Form → List ℕ → Option History → Response
+form_by form number None = line_response 404 UnknownDepositor
+form_by form number (Some h) = sheet_response (form_text form h.events number)
+
+abbrev pub form_response : List Entry → Form → Option Who → List ℕ → Response
+form_response L form None number = line_response 404 BadText
+form_response L form (Some w) number = form_by form number (standing (own L w))
 
 -- What is open, and who is enrolled.
 
@@ -173,26 +225,41 @@ depositors_response L = with_body 200 plain_type (depositor_list (enrolled L))
 
 -- Calls.
 
--- whether the request is one that has a body
-abbrev pub is_deed : Method → Call → Bool
-is_deed Post (ToDeed kind who ticket number) = true
-is_deed method call = false
+-- whether an interchange comes as the body, to be tried out
+abbrev pub is_tried_exchange : Method → Call → Bool
+is_tried_exchange Post ToTriedExchange = true
+is_tried_exchange method call = false
 
--- the command that is submitted, if one is
+-- whether the request is one that has a body
+abbrev pub call_has_body : Method → Call → Bool
+call_has_body Post (ToDeed kind who ticket number) = true
+call_has_body Post (ToTriedDeed kind who ticket number) = true
+call_has_body method call = is_tried_exchange method call
+
+-- the command that is submitted, if one is: of what is tried out none is
 abbrev pub call_command : Method → Call → List ℕ → Option Command
 call_command Post (ToDeed kind who ticket number) body =
     deed_command (deed_of kind who ticket number body)
 call_command method call body = None
 
--- the response to a request whose head is good, by its method, what its path calls for, and its
--- body
+-- The response to a request whose head is good, by its method, what its path calls for, and its
+-- body. What is tried out is answered as the same deed or interchange would be now.
 abbrev pub call_resp : Who → List Entry → Method → Call → List ℕ → Moment → Response
 call_resp W L Post (ToDeed kind who ticket number) body t =
     deed_response W L t (deed_of kind who ticket number body)
+call_resp W L Post (ToTriedDeed kind who ticket number) body t =
+    deed_response W L t (deed_of kind who ticket number body)
+call_resp W L Post ToTriedExchange body t =
+    reply_response (reply_to Today W L (Interchange body) t)
+call_resp W L Get ToPage body t = with_body 200 page_type page_text
 call_resp W L Get (ToOrder who number) body t = order_response L (owner_of who number) number
+call_resp W L Get (ToForm form who number) body t =
+    form_response L form (owner_of who number) number
 call_resp W L Get (ToExport who) body t =
-    found_for who (stock_of L) (λ rows. with_body 200 plain_type (stock_csv Two rows))
+    found_for who (stock_of L) (λ rows. with_body 200 plain_type (stock_csv Today rows))
 call_resp W L Get (ToOpen who) body t = open_response L (who_of who)
 call_resp W L Get ToDepositors body t = depositors_response L
 call_resp W L method (ToDeed kind who ticket number) body t = not_allowed (codes "POST")
+call_resp W L method (ToTriedDeed kind who ticket number) body t = not_allowed (codes "POST")
+call_resp W L method ToTriedExchange body t = not_allowed (codes "POST")
 call_resp W L method call body t = not_allowed (codes "GET")

@@ -1,7 +1,7 @@
 -- What a server tells of its connections.
 use Rattle.std.specs.Prelude.{◌≡◌, ◌⊎◌, ℕ, ◌≤◌, ◌^◌, ◌-◌, false, not, count_by, List, Option, Some, None, Err, length, map, All, IfOk, IfErr, OnErr, MatchOption}
 use Rattle.std.specs.List.{FoldsTo}
-use Rattle.profile.specs.Moments.{Moment}
+use Rattle.definitions.specs.Moments.{Moment}
 use Rattle.store.specs.Standing.{Standing, IsUnchanged, GoesOn}
 use Rattle.store.specs.Fault.TheVariants.{Device}
 use Rattle.intake.specs.Serving.{IsResponseWritten, IsUnread, IsUnwritten}

@@ -2,8 +2,8 @@
 use Rattle.std.specs.Prelude.{ℕ, List, codes, map, if◌then◌else◌, bytes_eq}
 use Rattle.httparse.specs.Grammar.{RequestHead}
 use Rattle.httparse.specs.Spans.{name_and_value}
-use Rattle.fields.specs.Fields.{has_field, values}
-use Rattle.profile.specs.Response.{Head, Method, Get, Post, OtherMethod}
+use Rattle.head_fields.specs.Fields.{has_field, values}
+use Rattle.definitions.specs.Response.{Head, Method, Get, Post, OtherMethod}
 use Rattle.intake.specs.Routes.{route_of}
 use Rattle.intake.specs.declared.heading.MethodKind.{MethodKind}
 use Rattle.intake.specs.declared.heading.MethodKind.TheVariants as kinds

@@ -1,8 +1,8 @@
 -- The health of a book: who asks for it, and what is told.
 use Rattle.std.specs.Prelude.{ℕ, Bool, true, false, ◌&&◌, List, ◌++◌, if◌then◌else◌, Option, Some, None, codes, decimal, bytes_eq}
-use Rattle.profile.specs.Moments.{Moment, stamp}
-use Rattle.profile.specs.Register.{Entry}
-use Rattle.profile.specs.Response.{Head, Method, Get, Response, bare, not_allowed, plain_type, with_body}
+use Rattle.definitions.specs.Moments.{Moment, stamp}
+use Rattle.definitions.specs.Register.{Entry}
+use Rattle.definitions.specs.Response.{Head, Method, Get, Response, bare, not_allowed, plain_type, with_body}
 use Rattle.store.specs.Extent.{extent_of}
 use Rattle.intake.specs.declared.audience.Access.{Access}
 

@@ -3,6 +3,7 @@ pub mod Routes
 pub mod Requests
 pub mod Fields
 pub mod Lines
+pub mod Forms
 pub mod Calls
 pub mod Targets
 pub mod Slips

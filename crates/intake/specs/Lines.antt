@@ -4,12 +4,12 @@ use Rattle.std.specs.Prelude.{◌≡◌, ◌⊎◌, ℕ, List, Option, Some, Non
 use Rattle.httparse.specs.Grammar.{RequestHead}
 use Rattle.httparse.specs.Spans.{span_bytes}
 use Rattle.httparse.specs.declared.spans.RequestSpans.{RequestSpans}
-use Rattle.profile.specs.Accepted.{depositor_of}
-use Rattle.profile.specs.Header.{Who, who_text}
-use Rattle.profile.specs.Register.{Command, Interchange}
-use Rattle.profile.specs.Response.{Response, fault_response}
+use Rattle.definitions.specs.Accepted.{depositor_of}
+use Rattle.definitions.specs.Header.{Who, who_text}
+use Rattle.definitions.specs.Register.{Command, Interchange}
+use Rattle.definitions.specs.Response.{Response, fault_response}
 use Rattle.store.specs.Fault.TheVariants.{OutOfMemory}
-use Rattle.gauges.specs.Inputs.{IsInput}
+use Rattle.counted_io.specs.Inputs.{IsInput}
 use Rattle.intake.specs.Requests.{HasRequestHead}
 use Rattle.intake.specs.declared.served.RequestLine.{RequestLine}
 

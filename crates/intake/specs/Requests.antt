@@ -1,8 +1,8 @@
 -- The head of an input.
 use Rattle.std.specs.Prelude.{ℕ, ◌<◌, ◌≤◌, Bool, true, false, List, length}
 use Rattle.httparse.specs.Grammar.{RequestHead, ReadsRequest, print_request}
-use Rattle.fields.specs.Fields.{most_head, most_fields}
-use Rattle.gauges.specs.Inputs.{IsFront}
+use Rattle.head_fields.specs.Fields.{most_head, most_fields}
+use Rattle.counted_io.specs.Inputs.{IsFront}
 use Rattle.intake.specs.declared.reading.Content.{Content}
 use Rattle.intake.specs.declared.reading.Content.TheVariants.{Whole, CutOff, NoMemory}
 

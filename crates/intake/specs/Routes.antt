@@ -8,7 +8,7 @@ use Rattle.matchit.specs.Order.{placed}
 use Rattle.matchit.specs.Seek.{first}
 use Rattle.matchit.specs.Params.{walk, named}
 use Rattle.matchit.specs.declared.error.InsertError.{InsertError}
-use Rattle.profile.specs.Response.{Route, ToExchange, ToStock, ToOutbox, ToContent, Nowhere}
+use Rattle.definitions.specs.Response.{Route, ToExchange, ToStock, ToOutbox, ToContent, Nowhere}
 use Rattle.intake.specs.declared.routes.RouteKind.{RouteKind}
 use Rattle.intake.specs.declared.routes.RouteKind.TheVariants.{Exchange, Stock, Outbox, Content}
 use Rattle.intake.specs.declared.routes.Route.{Route as Found}

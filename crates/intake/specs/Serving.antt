@@ -1,24 +1,24 @@
 -- What a request is answered, and what it leaves of the book.
 use Rattle.std.specs.Prelude.{◌≡◌, ◌⊎◌, ℕ, Bool, true, false, List, ◌++◌, Option, Some, None, Result, IfSome, length}
 use Rattle.httparse.specs.Grammar.{RequestHead}
-use Rattle.profile.specs.declared.rules.Rules.TheVariants.{Two}
-use Rattle.profile.specs.Moments.{Moment}
-use Rattle.profile.specs.Header.{Who}
-use Rattle.profile.specs.Register.{Command, Entry}
-use Rattle.profile.specs.Accepted.{is_accepted, reply_to, after}
-use Rattle.profile.specs.Response.{Method, Route, Response, fault_response, resp, response_bytes}
+use Rattle.definitions.specs.Rules.{Today}
+use Rattle.definitions.specs.Moments.{Moment}
+use Rattle.definitions.specs.Header.{Who}
+use Rattle.definitions.specs.Register.{Command, Entry}
+use Rattle.definitions.specs.Accepted.{is_accepted, reply_to, after}
+use Rattle.definitions.specs.Response.{Method, Route, Response, fault_response, resp, response_bytes}
 use Rattle.store.specs.Standing.{Standing, IsUsable, IsUnchanged, IsFault, GoesOn, LeavesEither, OfKept, OfUsable}
 use Rattle.store.specs.Fault.{Fault}
 use Rattle.std.specs.Io.KnownBytes.{Appends}
-use Rattle.gauges.specs.Gauges.{Grew, AppendsBeginning}
+use Rattle.counted_io.specs.Gauges.{Grew, AppendsBeginning}
 use Rattle.intake.specs.Asking.{asks_with, route_asks, call_asks, target_asks, IsShutAnswer, IsShutResponse}
-use Rattle.gauges.specs.Inputs.{IsInput}
+use Rattle.counted_io.specs.Inputs.{IsInput}
 use Rattle.intake.specs.Requests.{HasRequestHead, HasNoHead}
 use Rattle.intake.specs.Lines.{TellsOf, HasLine, TellsSender}
 use Rattle.intake.specs.Admitting.{answer_by, answer_for, asks_by, asks_for, command_by, command_for, is_health_by}
 use Rattle.intake.specs.Calls.{Call, call_command, call_resp}
 use Rattle.intake.specs.Targets.{Target, command_with, handed_in, response_with, target_command, target_resp}
-use Rattle.doors.specs.declared.askers.Asker.{Asker}
+use Rattle.request_guard.specs.declared.askers.Asker.{Asker}
 use Rattle.intake.specs.declared.audience.Access.{Access}
 use Rattle.intake.specs.declared.audience.Audience.{Audience}
 use Rattle.intake.specs.declared.served.RequestLine.{RequestLine}
@@ -32,9 +32,9 @@ pub record IsAsDefined
   pub response : OfKept old new (λ L. r ≡ meant L)
   pub kept : submits ≡ None → IsUnchanged old new
   pub taken : (c : Command) → submits ≡ Some c
-      → OfUsable old new (λ L. IsUsable new (after Two old.warehouse L (c, t)))
+      → OfUsable old new (λ L. IsUsable new (after Today old.warehouse L (c, t)))
   pub repeated : (c : Command) → submits ≡ Some c → OfKept old new
-      (λ L. is_accepted (reply_to Two old.warehouse L c t) ≡ false → IsUnchanged old new)
+      (λ L. is_accepted (reply_to Today old.warehouse L c t) ≡ false → IsUnchanged old new)
   pub opened : (c : Command) → submits ≡ Some c → new.shut ≡ false
 
 -- The 503 of a fault that happened. The book is as it was, or it has to be opened again; then a
@@ -46,7 +46,7 @@ pub record IsFaulted
   pub why : IsFault fault old new
   pub kept : submits ≡ None → IsUnchanged old new
   pub left : (c : Command) → submits ≡ Some c
-      → OfUsable old new (λ L. LeavesEither new L (after Two old.warehouse L (c, t)))
+      → OfUsable old new (λ L. LeavesEither new L (after Today old.warehouse L (c, t)))
 
 abbrev pub IsAnswered : Standing → Standing → Moment → Option Command → (List Entry → Response)
     → Response → Type 0
@@ -67,7 +67,7 @@ abbrev pub IsRouteServed : Standing → Standing → Moment → Method → Route
     → (Response → Type 0) → Response → Type 0
 IsRouteServed old new t method route body says r =
     IsRequestServed old new t (handed_in method route body)
-    (λ L. resp Two old.warehouse L method route body t) (route_asks method route) says r
+    (λ L. resp Today old.warehouse L method route body t) (route_asks method route) says r
 
 abbrev pub IsTargetServed : Standing → Standing → Moment → Method → Target → List ℕ → Response
     → Type 0

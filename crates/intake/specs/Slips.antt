@@ -1,8 +1,8 @@
 -- A deed that was read, as a command.
 use Rattle.std.specs.Prelude.{List}
-use Rattle.profile.specs.Header.{Who}
-use Rattle.profile.specs.Means.{Line}
-use Rattle.profile.specs.Register.{Command, Clerk}
+use Rattle.definitions.specs.Header.{Who}
+use Rattle.definitions.specs.Means.{Line}
+use Rattle.definitions.specs.Register.{Command, Clerk}
 use Rattle.intake.specs.Calls.{act_of}
 use Rattle.intake.specs.declared.calls.Deed.{Deed}
 

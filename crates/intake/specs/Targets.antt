@@ -1,14 +1,14 @@
 -- Where a path leads, by whom a server answers, and what is asked for there.
-use Rattle.std.specs.Prelude.{ℕ, Bool, false, List, [], if◌then◌else◌, Option, Some, None, Result, Ok, Err}
-use Rattle.profile.specs.declared.rules.Rules.TheVariants.{Two}
-use Rattle.profile.specs.Header.{Who}
-use Rattle.profile.specs.Moments.{Moment}
-use Rattle.profile.specs.Register.{Command, Interchange, Entry}
-use Rattle.profile.specs.Response.{Method, Route, Head, Response, bare, is_exchange, body_after, resp}
-use Rattle.intake.specs.Calls.{Call, ToDeed, ToOrder, ToExport, ToOpen, ToDepositors, call_of, is_deed, call_command, call_resp}
+use Rattle.std.specs.Prelude.{ℕ, Bool, false, List, [], if◌then◌else◌, Option, Some, None, Result, Ok, Err, codes, bytes_eq}
+use Rattle.definitions.specs.Rules.{Today}
+use Rattle.definitions.specs.Header.{Who}
+use Rattle.definitions.specs.Moments.{Moment}
+use Rattle.definitions.specs.Register.{Command, Interchange, Entry}
+use Rattle.definitions.specs.Response.{Method, Route, Head, Response, bare, is_exchange, body_after, resp}
+use Rattle.intake.specs.Calls.{Call, ToDeed, ToTriedDeed, ToTriedExchange, ToPage, ToOrder, ToForm, ToExport, ToOpen, ToDepositors, call_of, call_has_body, is_tried_exchange, call_command, call_resp}
 use Rattle.intake.specs.Routes.{route_of, seen_route}
 use Rattle.intake.specs.declared.audience.Audience.{Audience}
-use Rattle.intake.specs.declared.audience.Audience.TheVariants.{Partners, Clerks}
+use Rattle.intake.specs.declared.audience.Audience.TheVariants.{Partners, Testers, Clerks}
 use Rattle.intake.specs.declared.calls.Deed.{Deed}
 use Rattle.intake.specs.declared.calls.Call.{Call as FoundCall}
 use Rattle.intake.specs.declared.calls.Call.TheVariants as calls
@@ -20,9 +20,12 @@ pub data Target : Type 0 where
   ToRoute : Route → Target
   ToCall : Call → Target
 
--- what a path calls for: nothing where clerks aren't served
+-- what a path calls for: nothing where partners alone are served; where they may try an
+-- interchange out, that and no more
 abbrev pub call_for : Audience → List ℕ → Option Call
 call_for Partners path = None
+call_for Testers path =
+    if bytes_eq path (codes "/try/x12") then Some ToTriedExchange else None
 call_for Clerks path = call_of path
 
 abbrev pub target_by : Option Call → List ℕ → Target
@@ -35,12 +38,22 @@ target_of audience path = target_by (call_for audience path) path
 -- whether the request is one that has a body
 abbrev pub has_body : Method → Target → Bool
 has_body method (ToRoute route) = is_exchange method route
-has_body method (ToCall call) = is_deed method call
+has_body method (ToCall call) = call_has_body method call
 
 -- whether the request hands an interchange in
 abbrev pub hands_in : Method → Target → Bool
 hands_in method (ToRoute route) = is_exchange method route
 hands_in method (ToCall call) = false
+
+-- whether an interchange comes with the request: it hands it in, or tries it out
+abbrev pub has_interchange : Method → Target → Bool
+has_interchange method (ToRoute route) = is_exchange method route
+has_interchange method (ToCall call) = is_tried_exchange method call
+
+-- the interchange that comes with a request, if one does
+abbrev pub interchange_with : Method → Target → List ℕ → Option Command
+interchange_with method to body =
+    if has_interchange method to then Some (Interchange body) else None
 
 -- the interchange that a request hands in, if it does
 abbrev pub handed_in : Method → Route → List ℕ → Option Command
@@ -52,7 +65,7 @@ target_command method (ToRoute route) body = handed_in method route body
 target_command method (ToCall call) body = call_command method call body
 
 abbrev pub target_resp : Who → List Entry → Method → Target → List ℕ → Moment → Response
-target_resp W L method (ToRoute route) body t = resp Two W L method route body t
+target_resp W L method (ToRoute route) body t = resp Today W L method route body t
 target_resp W L method (ToCall call) body t = call_resp W L method call body t
 
 -- the body that is asked with, none where there needn't be one; or the status of the first test
@@ -76,9 +89,16 @@ response_with W L method to t (Ok body) = target_resp W L method to body t
 abbrev pub seen_deed : Deed → Call
 seen_deed d = ToDeed d.kind d.who.now d.ticket.now d.number.now
 
+abbrev pub seen_tried : Deed → Call
+seen_tried d = ToTriedDeed d.kind d.who.now d.ticket.now d.number.now
+
 abbrev pub seen_call : FoundCall → Call
 seen_call (calls.Deed d) = seen_deed d
+seen_call (calls.TriedDeed d) = seen_tried d
+seen_call calls.TriedExchange = ToTriedExchange
+seen_call calls.Page = ToPage
 seen_call (calls.Order who number) = ToOrder who.now number.now
+seen_call (calls.Form form who number) = ToForm form who.now number.now
 seen_call (calls.Export who) = ToExport who.now
 seen_call (calls.Open who) = ToOpen who.now
 seen_call calls.Depositors = ToDepositors

@@ -1,13 +1,15 @@
 //! Whom a server answers.
-use doors::Doors;
+use request_guard::Doors;
 
 /// Who is served.
 #[derive(Clone, Copy, PartialEq, Eq)]
 pub enum Audience {
     /// Partners: they hand interchanges in, and are shown what they have and what went out to them.
     Partners,
-    /// Clerks too: they hand in what they did with its sheet, and are shown picking sheets,
-    /// exports, what is open, and who is enrolled.
+    /// Partners, who may also try an interchange out.
+    Testers,
+    /// Clerks too: they hand in what they did with its sheet, or try it out, and are shown their
+    /// page, picking sheets, exports, what is open, and who is enrolled.
     Clerks,
 }
 
@@ -20,8 +22,8 @@ pub struct Access<'n> {
     pub doors: Option<Doors<'n>>,
     /// The field by which what stands in front says for which depositor it asks, as `X-Depositor`.
     /// Where it is named, each request has it once, with a depositor as `QQ-ID`, and asks for what
-    /// is that depositor's alone, and hands in what that one sent: else it is 403. The list of
-    /// depositors is 403 then.
+    /// is that depositor's alone, and hands in, or tries out, what that one sent: else it is 403.
+    /// The list of depositors and the clerks' page are 403 then.
     pub from: Option<&'n str>,
     /// Whether `GET /health` tells whoever asks that the book serves, and how far it goes. Such a
     /// request doesn't count as a connection.

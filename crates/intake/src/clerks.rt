@@ -1,8 +1,8 @@
 //! What clerks are answered.
 ghost use Rattle.std.specs.Prelude.{Some, true};
-ghost use Rattle.profile.specs.declared.rules.Rules.TheVariants.{Two};
-ghost use Rattle.profile.specs.Accepted.{reply_to};
-ghost use Rattle.profile.specs.Response.{Get, Post};
+ghost use Rattle.definitions.specs.Rules.{Today};
+ghost use Rattle.definitions.specs.Accepted.{reply_to};
+ghost use Rattle.definitions.specs.Response.{Get, Post};
 ghost use Rattle.intake.specs.Answers.{seen};
 ghost use Rattle.intake.specs.Asking.{IsResponseOf};
 ghost use Rattle.intake.specs.Calls.{deed_reply};
@@ -17,6 +17,7 @@ use crate::looking::{looked_at, not_called};
 use crate::replies::{of_deed, of_fault};
 use crate::response::Response;
 use crate::slips::{Slip, command, slip_of};
+use crate::trying::{deed_tried, exchange_tried};
 use std::alloc::Global;
 use store::{Fault, Keeper, Moment, submit};
 
@@ -24,7 +25,7 @@ use store::{Fault, Keeper, Moment, submit};
 fn performed<K: Keeper>(alloc: Global, keeper: &mut K, slip: &Slip<'_>, moment: Moment) -> Response
     ensures { let c = command_of slip.now.who slip.now.deed slip.now.sheet in
         IsRequestServed (K.standing keeper.old) (K.standing keeper.new) moment (Some c)
-        (λ L. deed_reply (reply_to Two (K.standing keeper.old).warehouse L c moment))
+        (λ L. deed_reply (reply_to Today (K.standing keeper.old).warehouse L c moment))
         true (IsResponseOf Fault.Reopen) (seen result) }
 {
     match submit(alloc, keeper, &command(slip), moment) {
@@ -66,6 +67,8 @@ fn posted_to<K: Keeper>(
 {
     match *call {
         Call::Deed(deed) => deed_at(alloc, keeper, &deed, body, moment),
+        Call::TriedDeed(deed) => deed_tried(alloc, keeper, &deed, body, moment),
+        Call::TriedExchange => exchange_tried(alloc, keeper, body, moment),
         _ => not_called(call),
     }
 }

@@ -8,7 +8,7 @@ use crate::heading::{MethodKind, length_of, read_method};
 use crate::patience::Patience;
 use crate::serving::barred;
 use crate::targets::{find_target, has_body};
-use fields::{MOST_FIELDS, MOST_HEAD, is_among, values_of};
+use head_fields::{MOST_FIELDS, MOST_HEAD, is_among, values_of};
 use httparse::Status;
 use httparse::spans::{EMPTY_HEADER_SPAN, HeaderSpan, RequestSpans, parse_request};
 use peers::{Arrival, Framing, Limits, Listener, Next, Room};

@@ -1,12 +1,12 @@
 ghost use Rattle.std.specs.Prelude.{◌≡◌, ℕ, List, [], ◌∷◌, MatchResult, Ok, Err};
-ghost use Rattle.fields.specs.Fields.{IsValues};
-ghost use Rattle.profile.specs.Response.{stated_length};
+ghost use Rattle.head_fields.specs.Fields.{IsValues};
+ghost use Rattle.definitions.specs.Response.{stated_length};
 ghost use Rattle.intake.specs.Answers.{number};
 ghost use Rattle.intake.specs.Fields.{seen_method, method_of};
 
 use crate::response::Status;
-use fields::Values;
-use profile::MOST_BYTES;
+use definitions::MOST_BYTES;
+use head_fields::Values;
 use segments::{all_digits, value_up_to};
 
 /// The methods that routes tell apart.

@@ -1,25 +1,27 @@
 //! Laws of requests: nothing runs, a contract is the law.
-ghost use Rattle.std.specs.Prelude.{◌≡◌, ◌≢◌, ℕ, List, Option, Some, None, true, false, option_map};
+ghost use Rattle.std.specs.Prelude.{◌≡◌, ◌≢◌, ◌++◌, ℕ, List, Option, Some, None, Ok, true, false, bytes_eq, codes, option_map};
+ghost use Rattle.definitions.specs.Rules.{Today};
 ghost use Rattle.httparse.specs.Grammar.{RequestHead};
-ghost use Rattle.profile.specs.Header.{Who};
-ghost use Rattle.profile.specs.Moments.{Moment};
-ghost use Rattle.profile.specs.Register.{Command, Entry};
-ghost use Rattle.profile.specs.Response.{asked, bare, Nowhere, Response};
+ghost use Rattle.definitions.specs.Header.{Who};
+ghost use Rattle.definitions.specs.Moments.{Moment};
+ghost use Rattle.definitions.specs.Register.{Command, Entry};
+ghost use Rattle.definitions.specs.Response.{asked, bare, Nowhere, Post, Response, ToExchange, resp};
+ghost use Rattle.definitions.specs.declared.sheet_kind.SheetKind.{SheetKind};
 ghost use Rattle.store.specs.Standing.{IsUnchanged};
 ghost use Rattle.intake.specs.Reaching.{may_reach};
-ghost use Rattle.doors.specs.Askers.{may_send};
-ghost use Rattle.intake.specs.Calls.{call_of};
+ghost use Rattle.request_guard.specs.Askers.{may_send};
+ghost use Rattle.intake.specs.Calls.{ToDeed, ToTriedDeed, ToTriedExchange, call_of, call_resp};
 ghost use Rattle.intake.specs.Fields.{head_of};
 ghost use Rattle.intake.specs.Routes.{route_of};
 ghost use Rattle.intake.specs.Lines.{sender_in};
-ghost use Rattle.intake.specs.Targets.{target_of};
+ghost use Rattle.intake.specs.Targets.{asked_with, interchange_with, target_of};
 ghost use Rattle.intake.specs.Admitting.{answer_by, answer_for, answer_of, command_by, command_for, command_in, is_health_by, without_health};
-ghost use Rattle.doors.specs.declared.askers.Asker.{Asker};
+ghost use Rattle.request_guard.specs.declared.askers.Asker.{Asker};
 ghost use Rattle.intake.specs.Serving.{BeginsWith, IsExchange};
 ghost use Rattle.intake.specs.declared.audience.Access.{Access};
 ghost use Rattle.intake.specs.declared.served.RequestLine.{RequestLine};
 ghost use Rattle.intake.specs.declared.audience.Audience.{Audience};
-ghost use Rattle.intake.specs.declared.audience.Audience.TheVariants.{Partners, Clerks};
+ghost use Rattle.intake.specs.declared.audience.Audience.TheVariants.{Partners, Testers, Clerks};
 
 use store::Keeper;
 
@@ -55,9 +57,38 @@ pub fn the_routes_stay()
         → answer_of Clerks W L (Some h) rest t ≡ answer_of Partners W L (Some h) rest t }
 {}
 
+/// What is tried out, after `/try`, is answered as the same deed or interchange would be now, and
+/// isn't done: a request whose path begins so submits nothing, whoever is served, and whoever asks.
+pub fn what_is_tried_out_is_not_done()
+    ensures paths { (kind : SheetKind) (who ticket number path : List ℕ)
+        → call_of (codes "/" ++ path) ≡ Some (ToDeed kind who ticket number)
+        → call_of (codes "/try/" ++ path) ≡ Some (ToTriedDeed kind who ticket number) }
+    ensures deeds { (W : Who) (L : List Entry) (t : Moment) (kind : SheetKind)
+        (who ticket number body : List ℕ)
+        → call_resp W L Post (ToTriedDeed kind who ticket number) body t
+        ≡ call_resp W L Post (ToDeed kind who ticket number) body t }
+    ensures exchanges { (W : Who) (L : List Entry) (t : Moment) (body : List ℕ)
+        → call_resp W L Post ToTriedExchange body t ≡ resp Today W L Post ToExchange body t }
+    ensures commands { (asker : Asker) (audience : Audience) (h : RequestHead)
+        (rest path : List ℕ) → h.target ≡ codes "/try/" ++ path
+        → command_for asker audience h rest ≡ None }
+{}
+
+/// Where partners may try an interchange out, any other request is answered, and submits a command,
+/// as where they may not.
+pub fn testers_are_served_as_partners()
+    ensures commands { (h : RequestHead) (rest : List ℕ)
+        → bytes_eq h.target (codes "/try/x12") ≡ false
+        → command_in Testers (Some h) rest ≡ command_in Partners (Some h) rest }
+    ensures answers { (h : RequestHead) (rest : List ℕ)
+        → bytes_eq h.target (codes "/try/x12") ≡ false → (W : Who) (L : List Entry) (t : Moment)
+        → answer_of Testers W L (Some h) rest t ≡ answer_of Partners W L (Some h) rest t }
+{}
+
 /// Where what stands in front is to say for whom a request is asked, one that it says nothing of,
 /// or that asks by its path for what another depositor has, is 403, whatever it is, and submits
-/// nothing; and an interchange that is submitted was sent by no other depositor.
+/// nothing; an interchange that is submitted was sent by no other depositor; and one that another
+/// sent is 403, and isn't submitted, whether it is handed in or tried out.
 pub fn others_are_turned_away()
     ensures commands { (asker : Asker) (audience : Audience) (h : RequestHead) (rest : List ℕ)
         → may_reach asker (target_of audience h.target) ≡ false
@@ -69,6 +100,13 @@ pub fn others_are_turned_away()
     ensures senders { (asker : Asker) (audience : Audience) (h : RequestHead) (rest : List ℕ)
         (c : Command) → command_for asker audience h rest ≡ Some c
         → may_send asker (sender_in (Some c)) ≡ true }
+    ensures foreign { (asker : Asker) (audience : Audience) (h : RequestHead) (rest body : List ℕ)
+        → asked_with (head_of h) (target_of audience h.target) rest ≡ Ok body
+        → may_send asker (sender_in (interchange_with (head_of h).method
+        (target_of audience h.target) body)) ≡ false
+        → (W : Who) (L : List Entry) (t : Moment)
+        → (command_for asker audience h rest ≡ None)
+        × (answer_for asker audience W L h rest t ≡ bare 403) }
 {}
 
 /// Where an access tells no health, no request is for it; and telling it changes nothing of any

@@ -7,6 +7,7 @@ mod callers;
 mod calls;
 mod clerks;
 mod crowd;
+mod forms;
 mod heading;
 mod health;
 pub mod laws;
@@ -26,20 +27,21 @@ mod serving;
 mod slips;
 mod targets;
 mod texts;
+mod trying;
 
 pub use audience::{Access, Audience};
 pub use callers::{Caller, Callers};
+pub use counted_io::Gauge;
 pub use crowd::Crowd;
-pub use doors::Doors;
 pub use folders::{
     FileOutcome, FolderStop, PassedOver, Taken, TakenFolder, WhyPassed, read_first,
     read_interchange, take_folder, take_folder_telling,
 };
-pub use gauges::Gauge;
 pub use listening::{serve_count, serve_within};
 pub use looking::owner;
 pub use patience::Patience;
 pub use peers::{Listener, PeerAddress};
+pub use request_guard::Doors;
 pub use responding::respond;
 pub use response::{Allow, Body, MediaType, Response, Status};
 pub use served::{Connection, RequestLine, Served, write_sender};

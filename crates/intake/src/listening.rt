@@ -9,7 +9,7 @@ use crate::callers::{Caller, Callers, OneByOne};
 use crate::patience::{Patience, Patient, StoppedClock};
 use crate::served::{Connection, Served};
 use crate::serving::serve_telling;
-use gauges::Gauge;
+use counted_io::Gauge;
 use peers::{Arrival, PeerAddress};
 use std::alloc::Global;
 use std::io::Read;

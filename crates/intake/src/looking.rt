@@ -1,10 +1,11 @@
-//! What clerks are shown: the picking sheet of an order, the export of a depositor's stock, what it
-//! has open, and who is enrolled.
+//! What clerks are shown: their page, the picking sheet of an order, forms to fill in, the export
+//! of a depositor's stock, what it has open, and who is enrolled.
 ghost use Rattle.std.specs.Prelude.{◌≡◌, ◌⊎◌, ℕ, List, true, IfOk, IsErrOf, is_some};
-ghost use Rattle.profile.specs.Header.{Who as Partner, who_of};
-ghost use Rattle.profile.specs.Moments.{Moment as Minute};
-ghost use Rattle.profile.specs.Register.{Entry};
-ghost use Rattle.profile.specs.Response.{Get, OtherMethod};
+ghost use Rattle.definitions.specs.Header.{Who as Partner, who_of};
+ghost use Rattle.definitions.specs.Moments.{Moment as Minute};
+ghost use Rattle.definitions.specs.Register.{Entry};
+ghost use Rattle.definitions.specs.Response.{Get, OtherMethod, with_body};
+ghost use Rattle.page.specs.Pages.{page_text, page_type};
 ghost use Rattle.store.specs.Standing.{IsReading, IsQuery, OfKept};
 ghost use Rattle.intake.specs.Answers.{seen};
 ghost use Rattle.intake.specs.Asking.{call_asks};
@@ -12,15 +13,17 @@ ghost use Rattle.intake.specs.Calls.{owner_of, order_response, open_response, de
 ghost use Rattle.intake.specs.Targets.{seen_call};
 
 use crate::calls::Call;
+use crate::forms::form_at;
 use crate::queries::stock_at;
 use crate::replies::{bad_part, refused, stranger, with_text};
 use crate::response::{Allow, MediaType, Response, Status, not_allowed_response};
-use profile::MOST_NUMBER;
+use definitions::MOST_NUMBER;
+use page::page;
 use reports::{depositor_list, open_report, pick_list};
-use std::alloc::Global;
+use std::alloc::{AllocError, Global};
 use store::{Fault, Ident, Keeper, Need, Who};
 
-/// The depositor whose order is named; None where one of the two texts can't be read.
+/// The depositor whose order or advice is named; None where one of the two texts can't be read.
 pub fn owner(who: &[u8], number: &[u8]) -> Option<Who>
     ensures { result ≡ owner_of who.now number.now }
 {
@@ -87,6 +90,13 @@ fn depositors_at<K: Keeper>(alloc: Global, keeper: &mut K) -> Result<Response, F
     ))
 }
 
+// The page by which clerks work. It is no part of the book.
+fn page_shown(alloc: Global) -> Result<Response, AllocError>
+    ensures { IfOk result (λ r. seen r ≡ with_body 200 page_type page_text) }
+{
+    Ok(with_text(Status::Okay, MediaType::Page, page(alloc)?))
+}
+
 /// The response to a call by GET. The book is as before. A fault is that of the query, or want of
 /// memory for the response.
 pub(crate) fn looked_at<K: Keeper>(
@@ -103,8 +113,12 @@ pub(crate) fn looked_at<K: Keeper>(
         → IsErrOf result Fault.Reopen ⊎ IsErrOf result Fault.OutOfMemory }
 {
     match *call {
-        Call::Deed(_) => Ok(not_allowed_response(Allow::Post)),
+        Call::Deed(_) | Call::TriedDeed(_) | Call::TriedExchange => {
+            Ok(not_allowed_response(Allow::Post))
+        }
+        Call::Page => Ok(page_shown(alloc)?),
         Call::Order(who, number) => order_at(alloc, keeper, who, number),
+        Call::Form(form, who, number) => form_at(alloc, keeper, form, who, number),
         Call::Export(who) => stock_at(alloc, keeper, who, true),
         Call::Open(who) => open_at(alloc, keeper, who),
         Call::Depositors => depositors_at(alloc, keeper),
@@ -117,7 +131,9 @@ pub(crate) fn not_called(call: &Call<'_>) -> Response
         → seen result ≡ call_resp W L OtherMethod (seen_call call.now) body t }
 {
     match *call {
-        Call::Deed(_) => not_allowed_response(Allow::Post),
+        Call::Deed(_) | Call::TriedDeed(_) | Call::TriedExchange => {
+            not_allowed_response(Allow::Post)
+        }
         _ => not_allowed_response(Allow::Get),
     }
 }

@@ -1,12 +1,12 @@
 ghost use Rattle.std.specs.Prelude.{◌≡◌, ◌==◌, ◌&&◌, ℕ, List, Some, None, true, IfOk, IsErrOf, if◌then◌else◌, is_some, option_map};
-ghost use Rattle.profile.specs.declared.rules.Rules.TheVariants.{Two};
-ghost use Rattle.profile.specs.Bytes.{value};
-ghost use Rattle.profile.specs.Header.{Who as Partner, who_of};
-ghost use Rattle.profile.specs.Moments.{Moment as Minute};
-ghost use Rattle.profile.specs.Register.{Entry};
-ghost use Rattle.profile.specs.Reports as reports;
-ghost use Rattle.profile.specs.Response.{Get, OtherMethod, is_plain_number, content_response, found_for, resp, with_body, plain_type};
-ghost use Rattle.profile.specs.Rows.{stock_of, outbox_of};
+ghost use Rattle.definitions.specs.Rules.{Today};
+ghost use Rattle.definitions.specs.Bytes.{value};
+ghost use Rattle.definitions.specs.Header.{Who as Partner, who_of};
+ghost use Rattle.definitions.specs.Moments.{Moment as Minute};
+ghost use Rattle.definitions.specs.Register.{Entry};
+ghost use Rattle.definitions.specs.Reports as reports;
+ghost use Rattle.definitions.specs.Response.{Get, OtherMethod, is_plain_number, content_response, found_for, resp, with_body, plain_type};
+ghost use Rattle.definitions.specs.Rows.{stock_of, outbox_of};
 ghost use Rattle.reports.specs.Exports.{stock_text as meant_text};
 ghost use Rattle.store.specs.Standing.{IsReading, OfKept};
 ghost use Rattle.intake.specs.Answers.{seen, told_text};
@@ -114,7 +114,7 @@ pub(crate) fn got<K: Keeper>(
     route: &Route<'_>,
 ) -> Result<Response, Fault>
     ensures response { OfKept (K.standing keeper.old) (K.standing keeper.new)
-        (λ L. (body : List ℕ) (t : Minute) → IfOk result (λ r. seen r ≡ resp Two
+        (λ L. (body : List ℕ) (t : Minute) → IfOk result (λ r. seen r ≡ resp Today
         (K.standing keeper.old).warehouse L Get (seen_route route.now) body t)) }
     ensures reading { IsReading (K.standing keeper.old) (K.standing keeper.new) result }
     ensures shut { (K.standing keeper.old).shut ≡ true
@@ -133,7 +133,7 @@ pub(crate) fn got<K: Keeper>(
 /// The response to a request by a method that no path allows.
 pub(crate) fn not_served(route: &Route<'_>) -> Response
     ensures { (W : Partner) (L : List Entry) (body : List ℕ) (t : Minute)
-        → seen result ≡ resp Two W L OtherMethod (seen_route route.now) body t }
+        → seen result ≡ resp Today W L OtherMethod (seen_route route.now) body t }
 {
     match *route {
         Route::Exchange => not_allowed_response(Allow::Post),

@@ -7,7 +7,7 @@ ghost use Rattle.intake.specs.Targets.{seen_call, seen_target};
 use crate::calls::Call;
 use crate::routes::Route;
 use crate::targets::Target;
-use doors::{Asker, is_named};
+use request_guard::{Asker, is_named};
 use store::Who;
 
 // Whether nothing of another depositor is at a route.
@@ -28,10 +28,13 @@ fn is_own_call(who: &Who, call: &Call<'_>) -> bool
 {
     match *call {
         Call::Deed(deed) => is_named(who, deed.who),
+        Call::TriedDeed(deed) => is_named(who, deed.who),
+        Call::TriedExchange => true,
         Call::Order(part, _) => is_named(who, part),
+        Call::Form(_, part, _) => is_named(who, part),
         Call::Export(part) => is_named(who, part),
         Call::Open(part) => is_named(who, part),
-        Call::Depositors => false,
+        Call::Page | Call::Depositors => false,
     }
 }
 

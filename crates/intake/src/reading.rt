@@ -1,12 +1,12 @@
 ghost use Rattle.std.specs.Prelude.{◌≡◌, ℕ, ◌+◌, ◌<◌, ◌≤◌, ◌++◌, [], List, length, take, drop, OnErr, OnOk, IfOk, IfSome, IfNone, unwrap_or};
 ghost use Rattle.std.specs.Io.KnownBytes.{Consumes, IsAtEnd};
-ghost use Rattle.fields.specs.Fields.{most_head, most_fields};
+ghost use Rattle.head_fields.specs.Fields.{most_head, most_fields};
 ghost use Rattle.httparse.specs.Spans.{IsRequestWithin, IsRequestOf};
-ghost use Rattle.gauges.specs.Gauges.{Grew};
-ghost use Rattle.gauges.specs.Inputs.{IsInput};
+ghost use Rattle.counted_io.specs.Gauges.{Grew};
+ghost use Rattle.counted_io.specs.Inputs.{IsInput};
 ghost use Rattle.intake.specs.Requests.{HasNoHead, IsBody, FillsBuffer};
 
-use gauges::Gauge;
+use counted_io::Gauge;
 use httparse::Status;
 use httparse::spans::{HeaderSpan, RequestSpans, parse_request};
 use std::alloc::Global;

@@ -1,7 +1,7 @@
 ghost use Rattle.std.specs.Prelude.{◌≡◌};
-ghost use Rattle.profile.specs.Response.{answer_response, refused_response, reply_response, fault_response, with_body};
+ghost use Rattle.definitions.specs.Response.{answer_response, refused_response, reply_response, fault_response, with_body};
 ghost use Rattle.store.specs.Runs.{told};
-ghost use Rattle.profile.specs.declared.refusals.Refusal.TheVariants as meant;
+ghost use Rattle.definitions.specs.declared.refusals.Refusal.TheVariants as meant;
 ghost use Rattle.intake.specs.Answers.{number, type_name, seen};
 ghost use Rattle.intake.specs.Calls.{line_response, deed_refused, deed_reply};
 

@@ -1,8 +1,8 @@
 ghost use Rattle.std.specs.Prelude.{Some, true};
-ghost use Rattle.profile.specs.declared.rules.Rules.TheVariants.{Two};
-ghost use Rattle.profile.specs.Accepted.{reply_to};
-ghost use Rattle.profile.specs.Register.{Interchange};
-ghost use Rattle.profile.specs.Response.{Post, reply_response};
+ghost use Rattle.definitions.specs.Rules.{Today};
+ghost use Rattle.definitions.specs.Accepted.{reply_to};
+ghost use Rattle.definitions.specs.Register.{Interchange};
+ghost use Rattle.definitions.specs.Response.{Post, reply_response};
 ghost use Rattle.intake.specs.Answers.{seen};
 ghost use Rattle.intake.specs.Asking.{IsResponseOf, IsShutResponse};
 ghost use Rattle.intake.specs.Fields.{seen_method, method_of};
@@ -22,7 +22,7 @@ use store::{Command, Fault, Keeper, Moment, submit};
 fn hand_in<K: Keeper>(alloc: Global, keeper: &mut K, body: &[u8], moment: Moment) -> Response
     ensures { let c = Interchange body.now in
         IsRequestServed (K.standing keeper.old) (K.standing keeper.new) moment (Some c)
-        (λ L. reply_response (reply_to Two (K.standing keeper.old).warehouse L c moment))
+        (λ L. reply_response (reply_to Today (K.standing keeper.old).warehouse L c moment))
         true (IsResponseOf Fault.Reopen) (seen result) }
 {
     match submit(alloc, keeper, &Command::Interchange(body), moment) {

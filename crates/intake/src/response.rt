@@ -1,5 +1,5 @@
 ghost use Rattle.std.specs.Prelude.{◌≡◌};
-ghost use Rattle.profile.specs.Response.{phrase, bare, not_allowed};
+ghost use Rattle.definitions.specs.Response.{phrase, bare, not_allowed};
 ghost use Rattle.intake.specs.Answers.{number, body_bytes, method_name, seen, fixed_text};
 
 use http::StatusCode;
@@ -72,6 +72,8 @@ pub enum MediaType {
     Plain,
     /// `application/EDI-X12` (RFC 1767)
     Interchange,
+    /// `text/html`, and the fields that go with a page
+    Page,
 }
 
 /// The method that a path allows, told with 405.

@@ -1,5 +1,5 @@
 ghost use Rattle.std.specs.Prelude.{◌≡◌, IfErr, IfOk};
-ghost use Rattle.profile.specs.Response.{is_exchange};
+ghost use Rattle.definitions.specs.Response.{is_exchange};
 ghost use Rattle.matchit.specs.Params.{AllText, walk};
 ghost use Rattle.intake.specs.Fields.{seen_method};
 ghost use Rattle.intake.specs.Routes.{table, seen_route, route_of, route_by_row, part, route_by};

@@ -1,19 +1,19 @@
 //! What a request is answered, and who sent the interchange that it hands in.
 ghost use Rattle.std.specs.Prelude.{◌≡◌, ℕ, List, None, Ok};
-ghost use Rattle.profile.specs.Register.{Interchange};
-ghost use Rattle.profile.specs.Accepted.{depositor_of};
+ghost use Rattle.definitions.specs.Register.{Interchange};
+ghost use Rattle.definitions.specs.Accepted.{depositor_of};
 ghost use Rattle.store.specs.Asked.{asked};
 ghost use Rattle.intake.specs.Answers.{seen};
 ghost use Rattle.intake.specs.Fields.{seen_method};
 ghost use Rattle.intake.specs.Lines.{sender_in};
 ghost use Rattle.intake.specs.Reaching.{sent_for};
 ghost use Rattle.intake.specs.Serving.{IsAskedServed};
-ghost use Rattle.intake.specs.Targets.{command_with, seen_target, target_command};
+ghost use Rattle.intake.specs.Targets.{command_with, interchange_with, seen_target, target_command};
 
 use crate::heading::MethodKind;
 use crate::response::{Response, Status, bare_response};
-use crate::targets::{Target, hands_in, respond_to};
-use doors::{Asker, may_send};
+use crate::targets::{Target, hands_in, has_interchange, respond_to};
+use request_guard::{Asker, may_send};
 use std::alloc::Global;
 use store::{Command, Keeper, Moment, Who, subject};
 
@@ -47,20 +47,32 @@ fn named_in(command: &Command<'_>) -> Option<Who>
     Some(named.0)
 }
 
-// The depositor of the interchange that a request hands in, if it does and names one.
+// The depositor of the interchange that comes with a request, if one does and names one.
 fn sender_of(method: MethodKind, target: &Target<'_>, command: &Command<'_>) -> Option<Who>
     ensures { (body : List ℕ) → asked command.now ≡ Interchange body → result
-        ≡ sender_in (target_command (seen_method method) (seen_target target.now) body) }
+        ≡ sender_in (interchange_with (seen_method method) (seen_target target.now) body) }
 {
-    if !hands_in(method, target) {
+    if !has_interchange(method, target) {
         return None;
     }
     named_in(command)
 }
 
+// The sender that is told of a request: of an interchange that is tried out nobody is.
+fn told_sender(method: MethodKind, target: &Target<'_>, sender: Option<Who>) -> Option<Who>
+    ensures { (body : List ℕ)
+        → sender ≡ sender_in (interchange_with (seen_method method) (seen_target target.now) body)
+        → result ≡ sender_in (target_command (seen_method method) (seen_target target.now) body) }
+{
+    if !hands_in(method, target) {
+        return None;
+    }
+    sender
+}
+
 /// Answers a request with this body whose target is found, and may be asked for; where its
-/// interchange may not be handed in for whom it is asked, it is 403. A fault inside is answered
-/// 503, and is told in the response alone.
+/// interchange may not be handed in, or tried out, for whom it is asked, it is 403. A fault inside
+/// is answered 503, and is told in the response alone.
 pub(crate) fn answer_at<K: Keeper>(
     alloc: Global,
     keeper: &mut K,
@@ -82,5 +94,8 @@ pub(crate) fn answer_at<K: Keeper>(
         return unsent(bare_response(Status::Forbidden));
     }
     let response = respond_to(alloc, keeper, method, target, body, moment);
-    Replied { response, sender }
+    Replied {
+        response,
+        sender: told_sender(method, target, sender),
+    }
 }

@@ -1,7 +1,7 @@
 //! What a server tells of the connections that it had.
 ghost use Rattle.std.specs.Prelude.{OnOk};
 ghost use Rattle.std.specs.Io.KnownBytes.{Appends};
-ghost use Rattle.profile.specs.Header.{who_text};
+ghost use Rattle.definitions.specs.Header.{who_text};
 ghost use Rattle.intake.specs.Lines.{sender_text};
 
 use http::StatusCode;

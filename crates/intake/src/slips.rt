@@ -1,7 +1,7 @@
 //! What a clerk did, with the sheet that came with it.
 ghost use Rattle.std.specs.Prelude.{◌≡◌, true, IsTrue, Ok, Err, IfOk, IfErr};
-ghost use Rattle.profile.specs.declared.rules.Rules.TheVariants.{Two};
-ghost use Rattle.profile.specs.Accepted.{is_command};
+ghost use Rattle.definitions.specs.Rules.{Today};
+ghost use Rattle.definitions.specs.Accepted.{is_command};
 ghost use Rattle.store.specs.Asked.{asked, act_of as asked_act};
 ghost use Rattle.intake.specs.Answers.{seen};
 ghost use Rattle.intake.specs.Calls as meant;
@@ -10,7 +10,7 @@ ghost use Rattle.intake.specs.Slips.{command_of};
 use crate::calls::Deed;
 use crate::replies::{bad_part, refused};
 use crate::response::Response;
-use profile::{MOST_NUMBER, MOST_TICKET};
+use definitions::{MOST_NUMBER, MOST_TICKET};
 use sheet_texts::sheet;
 use std::alloc::{AllocError, Global};
 use store::{Act, Command, Ident, Sheet, SheetKind, Who};
@@ -21,7 +21,7 @@ pub(crate) struct Slip<'p> {
     pub(crate) who: Who,
     pub(crate) deed: Deed<'p>,
     pub(crate) sheet: Sheet,
-    pub(crate) ghost given: { IsTrue (is_command Two (command_of who deed sheet)) },
+    pub(crate) ghost given: { IsTrue (is_command Today (command_of who deed sheet)) },
 }
 
 /// The depositor of what a clerk did, by its name, where that, the ticket and the number can be
@@ -86,7 +86,7 @@ pub fn act_of<'a>(kind: SheetKind, number: &'a [u8], sheet: &'a Sheet) -> Act<'a
 /// What a clerk did, as a command.
 pub(crate) fn command<'a>(slip: &'a Slip<'_>) -> Command<'a>
     ensures told { asked result ≡ command_of slip.now.who slip.now.deed slip.now.sheet }
-    ensures given { is_command Two (asked result) ≡ true }
+    ensures given { is_command Today (asked result) ≡ true }
 {
     let deed = slip.deed;
     Command::Clerk {

@@ -26,7 +26,18 @@ pub(crate) enum Target<'p> {
     Call(Call<'p>),
 }
 
-// What a path calls for: nothing where clerks aren't served.
+// What a path calls for where partners may try an interchange out, and no more.
+fn call_of_tester<'p>(path: &[u8]) -> Option<Call<'p>>
+    ensures { option_map seen_call result ≡ targets.call_for Audience.Testers path.now }
+{
+    if path == b"/try/x12".as_slice() {
+        Some(Call::TriedExchange)
+    } else {
+        None
+    }
+}
+
+// What a path calls for, by whom is served.
 fn call_for<'p>(
     alloc: Global,
     audience: Audience,
@@ -36,6 +47,7 @@ fn call_for<'p>(
 {
     match audience {
         Audience::Partners => Ok(None),
+        Audience::Testers => Ok(call_of_tester(path)),
         Audience::Clerks => find_call(alloc, path),
     }
 }
@@ -54,11 +66,24 @@ pub(crate) fn find_target<'p>(
     }
 }
 
-// Whether a call by this method has a body.
-fn is_deed(method: MethodKind, call: &Call<'_>) -> bool
-    ensures { result ≡ meant.is_deed (seen_method method) (seen_call call.now) }
+// Whether an interchange comes with a call by this method, to be tried out.
+fn is_tried_exchange(method: MethodKind, call: &Call<'_>) -> bool
+    ensures { result ≡ meant.is_tried_exchange (seen_method method) (seen_call call.now) }
 {
-    matches!((method, call), (MethodKind::Post, Call::Deed(_)))
+    matches!((method, call), (MethodKind::Post, Call::TriedExchange))
+}
+
+// Whether a call by this method has a body.
+fn call_has_body(method: MethodKind, call: &Call<'_>) -> bool
+    ensures { result ≡ meant.call_has_body (seen_method method) (seen_call call.now) }
+{
+    matches!(
+        (method, call),
+        (
+            MethodKind::Post,
+            Call::Deed(_) | Call::TriedDeed(_) | Call::TriedExchange
+        )
+    )
 }
 
 /// Whether a request has a body.
@@ -67,7 +92,17 @@ pub(crate) fn has_body(method: MethodKind, target: &Target<'_>) -> bool
 {
     match target {
         Target::Route(route) => is_handed_in(method, route),
-        Target::Call(call) => is_deed(method, call),
+        Target::Call(call) => call_has_body(method, call),
+    }
+}
+
+/// Whether an interchange comes with a request: it hands it in, or tries it out.
+pub(crate) fn has_interchange(method: MethodKind, target: &Target<'_>) -> bool
+    ensures { result ≡ targets.has_interchange (seen_method method) (seen_target target.now) }
+{
+    match target {
+        Target::Route(route) => is_handed_in(method, route),
+        Target::Call(call) => is_tried_exchange(method, call),
     }
 }
 

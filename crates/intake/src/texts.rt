@@ -1,11 +1,11 @@
 ghost use Rattle.std.specs.Prelude.{◌≡◌, length, OnOk, OnErr, IfOk, IfErr};
 ghost use Rattle.std.specs.Io.KnownBytes.{Appends};
-ghost use Rattle.profile.specs.Response.{response_bytes};
-ghost use Rattle.gauges.specs.Gauges.{Grew, AppendsBeginning, joined};
+ghost use Rattle.definitions.specs.Response.{response_bytes};
+ghost use Rattle.counted_io.specs.Gauges.{Grew, AppendsBeginning, joined};
 ghost use Rattle.intake.specs.Answers.{type_text, length_text, type_end, allow_text, seen, parts};
 
 use crate::response::{Allow, MediaType, Response};
-use gauges::{Gauge, Unwritten, send_pieces};
+use counted_io::{Gauge, Unwritten, send_pieces};
 use itoa::Buffer;
 use std::alloc::{AllocError, Global};
 use std::io::Write;
@@ -18,6 +18,7 @@ fn type_line(kind: Option<MediaType>) -> &'static [u8]
         None => b"",
         Some(MediaType::Plain) => b"Content-Type: text/plain\r\nContent-Length: ",
         Some(MediaType::Interchange) => b"Content-Type: application/EDI-X12\r\nContent-Length: ",
+        Some(MediaType::Page) => page::TYPE_LINE,
     }
 }
 

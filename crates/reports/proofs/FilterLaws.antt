@@ -2,7 +2,7 @@
 use Rattle.std.proofs.Common.{◌≡◌, Bool, true, false, cond, ◌&&◌, List, [], ◌∷◌, filter, refl, sym, ap, ◌∙◌}
 use Rattle.std.specs.List.{AllByRecursion}
 use Rattle.std.proofs.lemmas.Bool.{both_ways}
-use Rattle.profile.specs.Lists.{placed, in_order}
+use Rattle.definitions.specs.Lists.{placed, in_order}
 
 module _ {X : Type 0} (less : X → X → Bool) (through : (x y z : X) → less x y ≡ true → less y z ≡ true → less x z ≡ true) where
   -- each stands before all after it

@@ -4,4 +4,8 @@ mod FilterLaws
 mod PickLaws
 mod WriterLaws
 mod OpenLaws
+mod TakenLaws
+mod OpenedLaws
+mod ReadBackLaws
 mod RowsOpen
+mod RowsReceiving

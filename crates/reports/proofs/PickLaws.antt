@@ -2,16 +2,16 @@
 use Rattle.std.proofs.Common.{◌≡◌, ℕ, Bool, true, false, ◌&&◌, List, [], ◌∷◌, map, filter, flat_map, refl, ap, sym, ◌∙◌, bytes_eq, Option, Some, None, option_map, Ok, Err}
 use Rattle.std.specs.Prelude.{nat_lt}
 use Rattle.std.proofs.lemmas.List.Folds.{flat_map-map}
-use Rattle.profile.specs.Lists.{in_order, first_found, or_else}
-use Rattle.profile.specs.Means.{Line, OrderLine}
-use Rattle.profile.specs.Events.{Event, Enrolment, Advised, Ordered, Acknowledged, Counted, Picked, Recounted, pair_before, Reserved, order_if, order_under, is_order_open}
-use Rattle.profile.specs.History.{History}
-use Rattle.profile.specs.Need.{need_of_number}
-use Rattle.profile.specs.Page.{reserved_lines, page_line, page_order}
-use Rattle.profile.specs.declared.refusals.Refusal.TheVariants.{OrderClosed}
-use Rattle.profile.specs.Reports.{pick_lines, pick_sheet, pick_list}
-use Rattle.profile.proofs.NeedLaws.{alone}
-use Rattle.profile.proofs.TextLaws.{text_is}
+use Rattle.definitions.specs.Lists.{in_order, first_found, or_else}
+use Rattle.definitions.specs.Means.{Line, OrderLine}
+use Rattle.definitions.specs.Events.{Event, Enrolment, Advised, Ordered, Acknowledged, Counted, Picked, Recounted, pair_before, Reserved, order_if, order_under, is_order_open}
+use Rattle.definitions.specs.History.{History}
+use Rattle.definitions.specs.Need.{need_of_number}
+use Rattle.definitions.specs.Page.{reserved_lines, page_line, page_order}
+use Rattle.definitions.specs.declared.refusals.Refusal.TheVariants.{OrderClosed}
+use Rattle.definitions.specs.Reports.{pick_lines, pick_sheet, pick_list}
+use Rattle.definitions.proofs.NeedLaws.{alone}
+use Rattle.definitions.proofs.TextLaws.{text_is}
 use Rattle.store.proofs.PairLaws.{before_through, one_pair}
 use Rattle.store.specs.Pages.{PageFacts, order_at}
 use Rattle.store.specs.Shows.{Shows}
@@ -20,7 +20,7 @@ use Rattle.reports.specs.Picking.{held_of, order_lines, order_sheet, listed}
 use Rattle.reports.proofs.FilterLaws.{filter_in_order, filters}
 
 -- the reservations of an item are those of its shares
-held_is : (shares : List Line) (item : List ℕ) → held_of (reserved_lines shares) item ≡ in_order pair_before (filter (λ k. bytes_eq k.item item && nat_lt 0 k.quantity) shares)
+pub held_is : (shares : List Line) (item : List ℕ) → held_of (reserved_lines shares) item ≡ in_order pair_before (filter (λ k. bytes_eq k.item item && nat_lt 0 k.quantity) shares)
 held_is shares item =
     filter_in_order pair_before before_through (λ k. bytes_eq k.item item) (λ k l e f. ap (λ i. bytes_eq i item) (one_pair k l e f).0) (filter (λ k. nat_lt 0 k.quantity) shares)
     ∙ ap (in_order pair_before) (filters (λ k. bytes_eq k.item item) (λ k. nat_lt 0 k.quantity) shares)
@@ -36,7 +36,7 @@ sheet_is es r h = rw (h, all_lines_are r.shares r.order.lines) refl
 
 -- an order is found under its number
 
-found_is : {X Y : Type 0} (f : X → Option Y) (P : Y → Type 0) → ((x : X) (y : Y) → f x ≡ Some y → P y) → (xs : List X) (y : Y) → first_found f xs ≡ Some y → P y
+pub found_is : {X Y : Type 0} (f : X → Option Y) (P : Y → Type 0) → ((x : X) (y : Y) → f x ≡ Some y → P y) → (xs : List X) (y : Y) → first_found f xs ≡ Some y → P y
 found_is {Y = Y} f P each [] y h = absurd (cc)
 found_is {Y = Y} f P each (x ∷ xs) y h = by_first (f x) refl (λ g. found_is f P each xs y g) h
   where
@@ -48,7 +48,7 @@ abbrev number_in : Option Reserved → List ℕ
 number_in None = []
 number_in (Some r) = r.order.number
 
-number_of : (number : List ℕ) (e : Event) (r : Reserved) → order_if number e ≡ Some r → r.order.number ≡ number
+pub number_of : (number : List ℕ) (e : Event) (r : Reserved) → order_if number e ≡ Some r → r.order.number ≡ number
 number_of number (Ordered o shares) r h = by_test (bytes_eq o.number number) refl
   where
     by_test : (t : Bool) → bytes_eq o.number number ≡ t → r.order.number ≡ number

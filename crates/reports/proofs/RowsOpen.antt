@@ -2,13 +2,13 @@
 use Rattle.std.specs.Prelude.{◌≡◌, [], ◌∷◌, ◌++◌, Some, None, true, codes}
 use Rattle.std.proofs.Common.{refl}
 use Rattle.std.specs.Fmt.{digits}
-use Rattle.profile.specs.Means.{Address}
-use Rattle.profile.specs.Page.{PageAdvice, PageOrder}
-use Rattle.profile.specs.Register.{own}
-use Rattle.profile.specs.declared.rules.Rules.{Rules}
-use Rattle.profile.specs.declared.rules.Rules.TheVariants.{One, Two}
-use Rattle.profile.proofs.RowsTrade.{until_order}
-use Rattle.profile.proofs.Sample.{ACME, book, first_advice, sends}
+use Rattle.definitions.specs.Means.{Address}
+use Rattle.definitions.specs.Page.{PageAdvice, PageOrder}
+use Rattle.definitions.specs.Register.{own}
+use Rattle.definitions.specs.declared.rules.Rules.{Rules}
+use Rattle.definitions.specs.declared.rules.Rules.TheVariants.{One, Two}
+use Rattle.definitions.proofs.RowsTrade.{until_order}
+use Rattle.definitions.proofs.Sample.{ACME, book, first_advice, sends}
 use Rattle.reports.specs.Open.{open_report, depositor_list}
 use Rattle.store.specs.Open.{open_work, enrolled}
 

@@ -6,7 +6,7 @@ use Rattle.csv.specs.Writing.{default_writer, with_style, writer_setup, text_wri
 use Rattle.csv.specs.declared.writer.Writer.{Writer}
 use Rattle.csv.specs.declared.writer.WriterBuilder.{WriterBuilder}
 use Rattle.csv.specs.declared.writer.QuoteStyle.TheVariants as style
-use Rattle.profile.specs.Reports.{csv_record}
+use Rattle.definitions.specs.Reports.{csv_record}
 use Rattle.reports.specs.Exports.{HoldsText}
 
 abbrev quotes_nothing : WriterBuilder

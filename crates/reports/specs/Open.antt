@@ -1,13 +1,13 @@
 -- What a depositor has open, and who is enrolled, as people look at it.
 use Rattle.std.specs.Prelude.{ℕ, List, [], ◌∷◌, ◌++◌, length, if◌then◌else◌, ◌==◌, Option, Some, None, codes, decimal, flat_map}
-use Rattle.profile.specs.declared.widths.TheConstants.{AMOUNT_COLUMN}
-use Rattle.profile.specs.Bytes.{padded, right_aligned}
-use Rattle.profile.specs.Header.{Who, who_text}
-use Rattle.profile.specs.Limits.{most_number}
-use Rattle.profile.specs.Means.{Line, Address}
-use Rattle.profile.specs.Page.{PageAdvice, PageLine, PageOrder}
-use Rattle.profile.specs.Reports.{columns, ended}
-use Rattle.profile.specs.Texts.{total_of}
+use Rattle.definitions.specs.declared.widths.TheConstants.{AMOUNT_COLUMN}
+use Rattle.definitions.specs.Bytes.{padded, right_aligned}
+use Rattle.definitions.specs.Header.{Who, who_text}
+use Rattle.definitions.specs.Limits.{most_number}
+use Rattle.definitions.specs.Means.{Line, Address}
+use Rattle.definitions.specs.Page.{PageAdvice, PageLine, PageOrder}
+use Rattle.definitions.specs.Reports.{columns, ended}
+use Rattle.definitions.specs.Texts.{total_of}
 use Rattle.reports.specs.Picking.{short_of, short_line}
 use Rattle.reports.specs.declared.open_work.TheConstants.{LINES_COLUMN}
 use Rattle.store.specs.Open.{OpenWork}

@@ -1,11 +1,11 @@
 -- Picking sheets of orders as a page has them.
 use Rattle.std.specs.Prelude.{ℕ, ◌-◌, List, [], ◌++◌, length, if◌then◌else◌, nat_lt, ◌==◌, Some, None, Ok, Err, codes, bytes_eq, filter, flat_map, Option, Result, option_to_list}
-use Rattle.profile.specs.Means.{Line}
-use Rattle.profile.specs.Page.{PageLine, PageOrder}
-use Rattle.profile.specs.declared.refusals.Refusal.{Refusal}
-use Rattle.profile.specs.declared.refusals.Refusal.TheVariants as refusals
-use Rattle.profile.specs.Reports.{ended, address_lines, pick_line}
-use Rattle.profile.specs.Texts.{total_of}
+use Rattle.definitions.specs.Means.{Line}
+use Rattle.definitions.specs.Page.{PageLine, PageOrder}
+use Rattle.definitions.specs.declared.refusals.Refusal.{Refusal}
+use Rattle.definitions.specs.declared.refusals.Refusal.TheVariants as refusals
+use Rattle.definitions.specs.Reports.{ended, address_lines, pick_line}
+use Rattle.definitions.specs.Texts.{total_of}
 
 -- the reservations of an item
 abbrev pub held_of : List Line → List ℕ → List Line

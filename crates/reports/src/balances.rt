@@ -1,12 +1,12 @@
 ghost use Rattle.std.specs.Prelude.{◌≡◌, ◌++◌, ◌∷◌, IfOk, OnOk, flat_map, map};
-ghost use Rattle.profile.specs.declared.rules.Rules.TheVariants.{Two};
-ghost use Rattle.profile.specs.Bytes.{right_aligned};
-ghost use Rattle.profile.specs.Reports as meant;
+ghost use Rattle.definitions.specs.Rules.{Today};
+ghost use Rattle.definitions.specs.Bytes.{right_aligned};
+ghost use Rattle.definitions.specs.Reports as meant;
 
 use crate::columns::{append_left, append_right};
 use crate::dates::expiry_text;
+use definitions::{AMOUNT_COLUMN, DATE_DIGITS, MOST_ITEM, MOST_LOT};
 use itoa::Buffer;
-use profile::{AMOUNT_COLUMN, DATE_DIGITS, MOST_ITEM, MOST_LOT};
 use std::alloc::{AllocError, Global};
 use store::StockRow;
 
@@ -31,7 +31,7 @@ fn append_line(
     amounts: &[&[u8]; 4],
 ) -> Result<(), AllocError>
     ensures { OnOk result (out.new.items ≡ out.old.items
-        ++ meant.stock_columns Two item.now lot.now expiry.now (map (λ a. a.now) amounts.now)) }
+        ++ meant.stock_columns Today item.now lot.now expiry.now (map (λ a. a.now) amounts.now)) }
 {
     append_left(out, item, MOST_ITEM)?;
     out.push(b' ')?;
@@ -45,7 +45,7 @@ fn append_line(
 
 // Appends the line of a row.
 fn append_row(out: &mut Vec<u8>, row: &StockRow) -> Result<(), AllocError>
-    ensures { OnOk result (out.new.items ≡ out.old.items ++ meant.stock_line Two row.now) }
+    ensures { OnOk result (out.new.items ≡ out.old.items ++ meant.stock_line Today row.now) }
 {
     let mut expected = Buffer::new();
     let mut on_hand = Buffer::new();
@@ -71,7 +71,7 @@ fn append_row(out: &mut Vec<u8>, row: &StockRow) -> Result<(), AllocError>
 /// between each two columns and LF at its end. What is longer than its column widens it. The one
 /// error is want of memory.
 pub fn stock_report(alloc: Global, rows: &[StockRow]) -> Result<Vec<u8>, AllocError>
-    ensures { IfOk result (λ text. text.items ≡ meant.stock_report Two rows.now) }
+    ensures { IfOk result (λ text. text.items ≡ meant.stock_report Today rows.now) }
 {
     let mut text = Vec::new(alloc);
     append_line(

@@ -1,6 +1,6 @@
 //! Columns of fixed widths.
 ghost use Rattle.std.specs.Prelude.{◌≡◌, ◌++◌, OnOk, replicate};
-ghost use Rattle.profile.specs.Bytes.{padded, right_aligned};
+ghost use Rattle.definitions.specs.Bytes.{padded, right_aligned};
 
 use std::alloc::AllocError;
 

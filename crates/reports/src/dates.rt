@@ -1,6 +1,6 @@
 //! The expiry of a lot, as reports show it.
 ghost use Rattle.std.specs.Prelude.{◌≡◌};
-ghost use Rattle.profile.specs.Reports as meant;
+ghost use Rattle.definitions.specs.Reports as meant;
 
 use store::StockRow;
 

@@ -1,7 +1,7 @@
 //! Who is enrolled.
 ghost use Rattle.std.specs.Prelude.{◌≡◌, ◌++◌, IfOk, OnOk};
-ghost use Rattle.profile.specs.Header.{who_text};
-ghost use Rattle.profile.specs.Reports.{ended};
+ghost use Rattle.definitions.specs.Header.{who_text};
+ghost use Rattle.definitions.specs.Reports.{ended};
 ghost use Rattle.reports.specs.Open as meant;
 
 use std::alloc::{AllocError, Global};

@@ -1,6 +1,6 @@
 ghost use Rattle.std.specs.Prelude.{◌≡◌, ◌++◌, [], List, ℕ, IfOk, OnOk};
-ghost use Rattle.profile.specs.declared.rules.Rules.TheVariants.{Two};
-ghost use Rattle.profile.specs.Reports as meant;
+ghost use Rattle.definitions.specs.Rules.{Today};
+ghost use Rattle.definitions.specs.Reports as meant;
 ghost use Rattle.reports.specs.Exports.{HoldsText, stock_text as meant_text};
 
 use crate::balances::stock_report;
@@ -13,7 +13,7 @@ use store::StockRow;
 // Writes the record of a row.
 fn write_row(writer: &mut Writer<Vec<u8>>, row: &StockRow) -> Result<(), Error>
     ensures { OnOk result ((text : List ℕ) → HoldsText writer.old text
-        → HoldsText writer.new (text ++ meant.stock_record Two row.now)) }
+        → HoldsText writer.new (text ++ meant.stock_record Today row.now)) }
 {
     let mut expected = Buffer::new();
     let mut on_hand = Buffer::new();
@@ -35,7 +35,7 @@ fn write_row(writer: &mut Writer<Vec<u8>>, row: &StockRow) -> Result<(), Error>
 fn write_rows(writer: &mut Writer<Vec<u8>>, rows: &[StockRow]) -> Result<(), Error>
     requires { HoldsText writer.old [] }
 
-    ensures { OnOk result (HoldsText writer.new (meant.stock_csv Two rows.now)) }
+    ensures { OnOk result (HoldsText writer.new (meant.stock_csv Today rows.now)) }
 {
     writer.write_fields(&[
         b"item",
@@ -58,7 +58,7 @@ fn write_rows(writer: &mut Writer<Vec<u8>>, rows: &[StockRow]) -> Result<(), Err
 /// quoted, since no identifier and no number needs it. The one error is want of memory, the only
 /// one that a writer into a vector has.
 pub fn stock_csv(alloc: Global, rows: &[StockRow]) -> Result<Vec<u8>, AllocError>
-    ensures { IfOk result (λ text. text.items ≡ meant.stock_csv Two rows.now) }
+    ensures { IfOk result (λ text. text.items ≡ meant.stock_csv Today rows.now) }
 {
     let mut writer = WriterBuilder::new()
         .quote_style(QuoteStyle::Never)

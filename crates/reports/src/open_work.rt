@@ -5,8 +5,8 @@ ghost use Rattle.store.specs.Open.{open_on};
 
 use crate::columns::{append_left, append_right};
 use crate::picking::{append_short, short_of};
+use definitions::{AMOUNT_COLUMN, MOST_NUMBER};
 use itoa::Buffer;
-use profile::{AMOUNT_COLUMN, MOST_NUMBER};
 use std::alloc::{AllocError, Global};
 use store::{Goods, KnownAdvice, KnownLine, KnownOrder, Page};
 

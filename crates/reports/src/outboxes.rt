@@ -1,9 +1,9 @@
 ghost use Rattle.std.specs.Prelude.{◌≡◌, ◌++◌, IfOk, OnOk};
-ghost use Rattle.profile.specs.Reports as meant;
+ghost use Rattle.definitions.specs.Reports as meant;
 
 use crate::columns::append_right;
+use definitions::NUMBER_COLUMN;
 use itoa::Buffer;
-use profile::NUMBER_COLUMN;
 use std::alloc::{AllocError, Global};
 use store::OutRow;
 

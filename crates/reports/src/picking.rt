@@ -1,19 +1,23 @@
 ghost use Rattle.std.specs.Prelude.{◌≡◌, ◌++◌, Some, Ok, Err, IfOk, IfErr, OnOk, flat_map, option_to_list};
-ghost use Rattle.profile.specs.History.{History};
-ghost use Rattle.profile.specs.Need.{need_of_number};
-ghost use Rattle.profile.specs.Reports as meant;
+ghost use Rattle.definitions.specs.History.{History};
+ghost use Rattle.definitions.specs.Need.{need_of_number};
+ghost use Rattle.definitions.specs.Reports as meant;
 ghost use Rattle.reports.specs.Picking.{held_of, held_lines, short_of as meant_short_of, short_line, address_line, order_lines, order_sheet, listed};
 ghost use Rattle.store.specs.Pages.{order_at};
 ghost use Rattle.store.specs.Decided.{IsHeldPart};
 
 use crate::columns::{append_left, append_right};
+use definitions::{MOST_ITEM, MOST_LOT, QUANTITY_COLUMN};
 use itoa::Buffer;
-use profile::{MOST_ITEM, MOST_LOT, QUANTITY_COLUMN};
 use std::alloc::{AllocError, Global};
 use store::{Address, Goods, KnownLine, KnownOrder, Page, Refusal};
 
-// Appends the text and LF.
-fn append_ended(out: &mut Vec<u8>, beginning: &[u8], text: &[u8]) -> Result<(), AllocError>
+/// Appends the beginning, the text and LF.
+pub(crate) fn append_ended(
+    out: &mut Vec<u8>,
+    beginning: &[u8],
+    text: &[u8],
+) -> Result<(), AllocError>
     ensures { OnOk result (out.new.items ≡ out.old.items ++ meant.ended
         (beginning.now ++ text.now)) }
 {

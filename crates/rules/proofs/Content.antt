@@ -6,17 +6,17 @@ use Rattle.std.specs.List.{list_all, AllByRecursion, before_first, position_or_l
 use Rattle.std.proofs.lemmas.Bool.{and_parts}
 use Rattle.std.proofs.lemmas.Slice.Eq.{bytes_eq-Decides}
 use borrow.Author.Tests.{ltb-false}
-use Rattle.profile.specs.Limits.{most_sets}
-use Rattle.profile.specs.Bytes.{Delims}
-use Rattle.profile.specs.Lists.{Parted, part_with, parted}
-use Rattle.profile.specs.Cut.{cut, Segment, element, id_of, has_id}
-use Rattle.profile.specs.Elements.{Digits, must, rows_in, control_rows, faulty_element, is_well_formed}
-use Rattle.profile.specs.Header.{delims_of}
-use Rattle.profile.specs.Structure.{Group, group_of, groups_of}
-use Rattle.profile.specs.Halt.{structure_note, is_content_invalid}
+use Rattle.definitions.specs.Limits.{most_sets}
+use Rattle.definitions.specs.Bytes.{Delims}
+use Rattle.definitions.specs.Lists.{Parted, part_with, parted}
+use Rattle.definitions.specs.Cut.{cut, Segment, element, id_of, has_id}
+use Rattle.definitions.specs.Elements.{Digits, must, rows_in, control_rows, faulty_element, is_well_formed}
+use Rattle.definitions.specs.Header.{delims_of}
+use Rattle.definitions.specs.Structure.{Group, group_of, groups_of}
+use Rattle.definitions.specs.Halt.{structure_note, is_content_invalid}
 use Rattle.sets_in.specs.Amounts.{IsAmount}
 use Rattle.sets_in.proofs.Sound.{amount_of, first_row, taken, not_false, wider}
-use Rattle.sets_taken.specs.Judging.{IsSmall}
+use Rattle.set_effects.specs.Judging.{IsSmall}
 
 -- GE01 of a GE that is well formed
 none_is : {X : Type 0} (o : Option X) → is_none o ≡ true → o ≡ None

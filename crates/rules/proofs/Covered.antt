@@ -1,16 +1,16 @@
 -- The goods of each depositor of a legal register: covered, and each balance within 64 bits.
 use Rattle.std.proofs.Common.{◌≡◌, ℕ, ◌<◌, ◌^◌, Bool, List, [], ◌∷◌, None, Some, refl, ap, ◌∙◌, arith}
 use Rattle.std.specs.Prelude.{if◌then◌else◌}
-use Rattle.profile.specs.declared.rules.Rules.{Rules}
-use Rattle.profile.specs.Header.{Who}
-use Rattle.profile.specs.Register.{Entry, own}
-use Rattle.profile.specs.Events.{Event}
-use Rattle.profile.specs.History.{events, history}
-use Rattle.profile.specs.Movements.{Column, IsCovered, balance}
-use Rattle.profile.specs.Accepted.{IsLegal}
+use Rattle.definitions.specs.declared.rules.Rules.{Rules}
+use Rattle.definitions.specs.Header.{Who}
+use Rattle.definitions.specs.Register.{Entry, own}
+use Rattle.definitions.specs.Events.{Event}
+use Rattle.definitions.specs.History.{events, history}
+use Rattle.definitions.specs.Movements.{Column, IsCovered, balance}
+use Rattle.definitions.specs.Accepted.{IsLegal}
 use Rattle.stock.proofs.PageLaws.{balance_shows, covered_events, small_amounts}
 use Rattle.rules.specs.LegalPages.{IsLegalPage}
-use Rattle.profile.specs.Decision.{standing}
+use Rattle.definitions.specs.Decision.{standing}
 use Rattle.rules.proofs.LegalPages.{legal_page, some_standing}
 
 -- what is said of the goods that events tell of

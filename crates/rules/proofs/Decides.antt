@@ -1,37 +1,37 @@
 -- Decisions on interchanges, as the definitions have them.
 use Rattle.std.proofs.Common.{◌≡◌, ℕ, ◌+◌, ◌<◌, Bool, true, false, not, cond, List, Option, Some, None, refl, sym, ap, ◌∙◌, subst, arith}
 use Rattle.std.specs.Prelude.{◌&&◌, nat_lt, if◌then◌else◌}
-use Rattle.profile.specs.declared.rules.Rules.{Rules}
-use Rattle.profile.specs.Accepted.{depositor_of}
+use Rattle.definitions.specs.declared.rules.Rules.{Rules}
+use Rattle.definitions.specs.Accepted.{depositor_of}
 use Rattle.std.proofs.lemmas.Bool.{le-ltb}
-use Rattle.profile.specs.Limits.{most_entries}
-use Rattle.profile.specs.Moments.{Moment}
-use Rattle.profile.specs.Header.{Who, is_partner, isa, sender, delims_of, is_unreadable}
-use Rattle.profile.specs.Cut.{cut}
-use Rattle.profile.specs.Structure.{groups_of}
-use Rattle.profile.specs.History.{History, tellings}
-use Rattle.profile.specs.Texts.{Told, answer}
-use Rattle.profile.specs.Register.{Command, Interchange, mark, interchange_mark}
-use Rattle.profile.specs.declared.refusals.Refusal.TheVariants.{Note}
-use Rattle.profile.specs.Reply.{Accepted, Refused, refusal_answer, interchange_entry}
-use Rattle.profile.specs.Decision as known
+use Rattle.definitions.specs.Limits.{most_entries}
+use Rattle.definitions.specs.Moments.{Moment}
+use Rattle.definitions.specs.Header.{Who, is_partner, isa, sender, delims_of, is_unreadable}
+use Rattle.definitions.specs.Cut.{cut}
+use Rattle.definitions.specs.Structure.{groups_of}
+use Rattle.definitions.specs.History.{History, tellings}
+use Rattle.definitions.specs.Texts.{Told, answer}
+use Rattle.definitions.specs.Register.{Command, Interchange, mark, interchange_mark}
+use Rattle.definitions.specs.declared.refusals.Refusal.TheVariants.{Note}
+use Rattle.definitions.specs.Reply.{Accepted, Refused, refusal_answer, interchange_entry}
+use Rattle.definitions.specs.Decision as known
 use Rattle.sets_out.specs.Headings.{heading_of}
 use Rattle.sets_out.specs.Interchanges.{answer_of}
 use Rattle.sets_out.proofs.TextLaws.{answer-told}
 use Rattle.stock.specs.Pages.{PageFacts}
 use Rattle.stock.specs.Parts.{Named, IsPart}
 use Rattle.stock.specs.declared.steps.Change.{Change}
-use Rattle.sets_taken.specs.SetNames.{NamesGroups}
+use Rattle.set_effects.specs.SetNames.{NamesGroups}
 use Rattle.rules.specs.Needs.{HasNeeded}
-use Rattle.profile.specs.Lists.{or_else}
-use Rattle.profile.specs.Halt.{header_notes, structure_notes, structure_note}
+use Rattle.definitions.specs.Lists.{or_else}
+use Rattle.definitions.specs.Halt.{header_notes, structure_notes, structure_note}
 use Rattle.envelope.specs.Conditions.{first_note}
 use Rattle.envelope.specs.Halting.{first_appended}
-use Rattle.repeats.specs.Written.{Written, Recalled, written_as}
-use Rattle.sets_taken.specs.Judging.{AreGroupsTaken}
+use Rattle.entries.specs.Written.{Written, Recalled, written_as}
+use Rattle.set_effects.specs.Judging.{AreGroupsTaken}
 use Rattle.rules.specs.Decided.{IsPageOf, StandsFor, IsRecalled, IsUnder, IsGiven, entries_of}
-use Rattle.repeats.specs.Replies.{IsEntry, IsReply}
-use Rattle.repeats.specs.declared.decisions.Decision.{Decision}
+use Rattle.entries.specs.Replies.{IsEntry, IsReply}
+use Rattle.entries.specs.declared.decisions.Decision.{Decision}
 
 -- an interchange that is accepted under the next number
 pub accepted_out : (q : Rules) (W w : Who) (t : Moment) (number : ℕ) (text header : List ℕ) (p new P : PageFacts) (cs : List Change) (told : List Told) (out : List ℕ) (h : History) (n : Named)

@@ -5,17 +5,17 @@ use Rattle.std.specs.Prelude.{find, flat_map, option_map, if◌then◌else◌, �
 use Rattle.std.specs.List.{list_all}
 use borrow.Author.Tests.{eqb-true}
 use Rattle.std.proofs.lemmas.Bool.{cases_lt, ne_eqb, eq-eqb, lt-ltb}
-use Rattle.profile.specs.declared.rules.Rules.{Rules}
-use Rattle.profile.specs.Moments.{Moment}
-use Rattle.profile.specs.Header.{Who}
-use Rattle.profile.specs.Events.{Event, pair_before}
-use Rattle.profile.specs.Rows.{act_function, lot_row, named, running_rows, said_of}
-use Rattle.profile.specs.Means.{Line}
-use Rattle.profile.specs.Lists.{in_order}
-use Rattle.profile.specs.Page.{Page, PageDocument, sent_by, sent_on, documents_of, page_of}
-use Rattle.profile.specs.Register.{Deed, Enrolled, Received, Performed, Entry, is_numbered, own, next_number}
-use Rattle.profile.specs.History.{history, events}
-use Rattle.profile.specs.Accepted.{IsLegal}
+use Rattle.definitions.specs.declared.rules.Rules.{Rules}
+use Rattle.definitions.specs.Moments.{Moment}
+use Rattle.definitions.specs.Header.{Who}
+use Rattle.definitions.specs.Events.{Event, pair_before}
+use Rattle.definitions.specs.Rows.{act_function, lot_row, named, running_rows, said_of}
+use Rattle.definitions.specs.Means.{Line}
+use Rattle.definitions.specs.Lists.{in_order}
+use Rattle.definitions.specs.Page.{Page, PageDocument, sent_by, sent_on, documents_of, page_of}
+use Rattle.definitions.specs.Register.{Deed, Enrolled, Received, Performed, Entry, is_numbered, own, next_number}
+use Rattle.definitions.specs.History.{history, events}
+use Rattle.definitions.specs.Accepted.{IsLegal}
 use Rattle.stock.specs.Keyed.{IsSorted, entry_of, key_before, rises_by, row_key}
 use Rattle.stock.specs.Pages.{PageFacts, AreSorted, is_document, document_at}
 use Rattle.stock.specs.Shows.{Shows, sent_under, document_of}
@@ -24,11 +24,11 @@ use Rattle.rules.specs.Decided.{IsPageOf}
 use Rattle.rules.specs.Played.{no_history}
 use Rattle.rules.specs.Defined.{IsDefined}
 use Rattle.rules.specs.Naming.{facts_of}
-use Rattle.sets_taken.proofs.KeyedLists.{both, order_rises, rises_map, same_found}
+use Rattle.set_effects.proofs.KeyedLists.{both, order_rises, rises_map, same_found}
 use Rattle.rules.proofs.Registers.{Along1, IsDone, done_own}
 use Rattle.rules.proofs.SentUnder.{sent_of, sent_at, sent_above, sent_kept}
 use Rattle.rules.proofs.SentRows.{next_snoc}
-use Rattle.sets_taken.proofs.Rowed.{rows_in_order}
+use Rattle.set_effects.proofs.Rowed.{rows_in_order}
 use Rattle.rules.proofs.Once.{advices_once, orders_once}
 use Rattle.rules.proofs.Paged.{advices_are_page, advices_rise, orders_are_page, orders_rise}
 

@@ -4,26 +4,26 @@ use Rattle.std.specs.Prelude.{find, bytes_eq, option_to_list, ◌==◌, if◌the
 use Rattle.std.specs.List.{list_all}
 use borrow.Author.Tests.{eqb-true}
 use Rattle.std.proofs.lemmas.Slice.Eq.{bytes_eq-Decides}
-use Rattle.profile.specs.declared.rules.Rules.{Rules}
-use Rattle.profile.specs.Bytes.{comes_before}
-use Rattle.profile.specs.Lists.{placed, in_order, or_else}
-use Rattle.profile.specs.Moments.{Moment}
-use Rattle.profile.specs.Header.{Who, is_partner, who_text, who_of, who_eq}
-use Rattle.profile.specs.Register.{Deed, Enrolled, Received, Performed, Entry, is_numbered, own}
-use Rattle.profile.specs.Readings.{is_entry}
-use Rattle.profile.specs.Accepted.{IsLegal}
-use Rattle.profile.specs.Tables.{depositors}
-use Rattle.profile.proofs.TextLaws.{both_parts}
-use Rattle.profile.proofs.ReadingLaws.{who_of-who_text}
-use Rattle.profile.proofs.RegisterLaws.{legal-entries}
+use Rattle.definitions.specs.declared.rules.Rules.{Rules}
+use Rattle.definitions.specs.Bytes.{comes_before}
+use Rattle.definitions.specs.Lists.{placed, in_order, or_else}
+use Rattle.definitions.specs.Moments.{Moment}
+use Rattle.definitions.specs.Header.{Who, is_partner, who_text, who_of, who_eq}
+use Rattle.definitions.specs.Register.{Deed, Enrolled, Received, Performed, Entry, is_numbered, own}
+use Rattle.definitions.specs.Readings.{is_entry}
+use Rattle.definitions.specs.Accepted.{IsLegal}
+use Rattle.definitions.specs.Tables.{depositors}
+use Rattle.definitions.proofs.TextLaws.{both_parts}
+use Rattle.definitions.proofs.ReadingLaws.{who_of-who_text}
+use Rattle.definitions.proofs.RegisterLaws.{legal-entries}
 use Rattle.stock.specs.Keyed.{put_by, rises_by}
 use Rattle.stock.proofs.Orders.{Has}
 use Rattle.stock.proofs.Keys.{IsTest, find_put, put_rises}
 use Rattle.stock.proofs.KeyLemmas.{texts_strict}
 use Rattle.rules.specs.Played.{CanFollow}
 use Rattle.rules.proofs.Registers.{Along1, follows_own, who_is, same_who}
-use Rattle.sets_taken.proofs.KeyedLists.{last_found, order_rises, find_ordered, same_found}
-use Rattle.sets_taken.proofs.Blocks.{IsSplit, split}
+use Rattle.set_effects.proofs.KeyedLists.{last_found, order_rises, find_ordered, same_found}
+use Rattle.set_effects.proofs.Blocks.{IsSplit, split}
 
 -- Who enrolled.
 

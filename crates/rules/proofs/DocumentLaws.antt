@@ -3,17 +3,17 @@ use Rattle.std.proofs.Common.{◌≡◌, ℕ, ◌+◌, ◌*◌, ◌≤◌, Bool,
 use Rattle.std.specs.Prelude.{Result, option_map, count_by, codes, nat_lt, if◌then◌else◌}
 use Rattle.std.specs.List.{AllByRecursion, list_any}
 use Rattle.std.proofs.lemmas.Bool.{cases_Bool, and_parts}
-use Rattle.profile.specs.declared.rules.Rules.TheVariants.{Two}
-use Rattle.profile.specs.Means.{Line, Advice, OrderLine}
-use Rattle.profile.specs.Events.{Event, Counted, Picked, Recounted, is_pair, quantity_of, advice_under, is_advice_open, Reserved, order_under, is_order_open}
-use Rattle.profile.specs.Movements.{OnHand, balance}
-use Rattle.profile.specs.Clerk.{is_sheet, counted, picked, recounted, on_hand_now}
-use Rattle.profile.specs.declared.sheet_kind.SheetKind.TheVariants.{Recount as RecountSheet}
-use Rattle.profile.specs.Page.{PageAdvice, PageOrder, page_advice, page_order, page_line}
-use Rattle.profile.specs.declared.refusals.Refusal.{Refusal}
-use Rattle.profile.specs.declared.refusals.Refusal.TheVariants.{AdviceClosed, OrderClosed, NotReserved, UnknownLot, BelowReserved, NoDifference}
-use Rattle.profile.specs.Texts.{document_of, document_text, total_of}
-use Rattle.profile.specs.Cut.{Segment}
+use Rattle.definitions.specs.Rules.{Today}
+use Rattle.definitions.specs.Means.{Line, Advice, OrderLine}
+use Rattle.definitions.specs.Events.{Event, Counted, Picked, Recounted, is_pair, quantity_of, advice_under, is_advice_open, Reserved, order_under, is_order_open}
+use Rattle.definitions.specs.Movements.{OnHand, balance}
+use Rattle.definitions.specs.Clerk.{is_sheet, counted, picked, recounted, on_hand_now}
+use Rattle.definitions.specs.declared.sheet_kind.SheetKind.TheVariants.{Recount as RecountSheet}
+use Rattle.definitions.specs.Page.{PageAdvice, PageOrder, page_advice, page_order, page_line}
+use Rattle.definitions.specs.declared.refusals.Refusal.{Refusal}
+use Rattle.definitions.specs.declared.refusals.Refusal.TheVariants.{AdviceClosed, OrderClosed, NotReserved, UnknownLot, BelowReserved, NoDifference}
+use Rattle.definitions.specs.Texts.{document_of, document_text, total_of}
+use Rattle.definitions.specs.Cut.{Segment}
 use Rattle.sets_out.specs.Documents.{AdjustedLine, ShippedLine, adjusted_for, shipped_for, shipment_body, adjustment_body}
 use Rattle.sets_out.proofs.BodyLaws.{body_944-for, body_945-for, body_947-for}
 use Rattle.sets_out.specs.declared.envelopes.Envelope.{Envelope}
@@ -143,7 +143,7 @@ adjusted_lines es p whole (l ∷ ls) shows sheet all =
     ∙ ap (λ (x : List AdjustedLine). adjusted_for (on_hand_now es whole) l ∷ x) (adjusted_lines es p whole ls shows sheet all.1)
 
 pub adjustment_is : (w : Envelope) (p : PageFacts) (es : List Event) (n : ℕ) (sheet : List Line) (e : Event) (text : List ℕ)
-    → Shows p es → recounted es n sheet ≡ Ok e → is_sheet Two RecountSheet sheet ≡ true → text ≡ adjustment_text w p sheet
+    → Shows p es → recounted es n sheet ≡ Ok e → is_sheet Today RecountSheet sheet ≡ true → text ≡ adjustment_text w p sheet
     → text ≡ document_of w.warehouse w.depositor w.moment w.number e
 adjustment_is w p es n sheet e text shows is good made =
     made

@@ -3,29 +3,29 @@ use Rattle.std.proofs.Common.{◌≡◌, ℕ, suc, ◌+◌, ◌*◌, ◌≤◌, 
 use Rattle.std.specs.Prelude.{Result, is_none, sum_by, if◌then◌else◌, option_to_list}
 use Rattle.std.specs.List.{cons_option}
 use Rattle.std.proofs.lemmas.List.Sums.{sum_by-cons}
-use Rattle.profile.specs.declared.rules.Rules.{Rules}
-use Rattle.profile.specs.Limits.{most_entries, most_sets}
-use Rattle.profile.specs.Bytes.{Delims}
-use Rattle.profile.specs.Cut.{cut}
-use Rattle.profile.specs.Moments.{Moment}
-use Rattle.profile.specs.Header.{Who, delims_of}
-use Rattle.profile.specs.declared.set_kind.SetKind.{SetKind}
-use Rattle.profile.specs.Faults.{SetFault}
-use Rattle.profile.specs.Structure.{Set, Group, kind_of, group_fault, examined, groups_of}
-use Rattle.profile.specs.Means.{Advice}
-use Rattle.profile.specs.Events.{Event, Enrolment, Advised}
-use Rattle.profile.specs.Movements.{Expected, IsExpectedWithin}
-use Rattle.profile.specs.declared.refusals.Refusal.{Refusal}
-use Rattle.profile.specs.Clerk.{performed}
-use Rattle.profile.specs.Register.{Act, Count, Pick, Recount, Deed, Enrolled, Received, Performed, Entry, own}
-use Rattle.profile.specs.History.{Rejection, event_of, judged, by_segment, outcome_of, verdicts_on, telling_of, events_told, tellings_on, events_added, History, after_entry, history, events}
-use Rattle.profile.specs.Accepted.{IsLegal}
-use Rattle.profile.proofs.EventsLaws.{came_to-append}
-use Rattle.profile.proofs.HistoryLaws.{history_snoc}
-use Rattle.sets_taken.specs.Judging.{passed, told_events}
+use Rattle.definitions.specs.declared.rules.Rules.{Rules}
+use Rattle.definitions.specs.Limits.{most_entries, most_sets}
+use Rattle.definitions.specs.Bytes.{Delims}
+use Rattle.definitions.specs.Cut.{cut}
+use Rattle.definitions.specs.Moments.{Moment}
+use Rattle.definitions.specs.Header.{Who, delims_of}
+use Rattle.definitions.specs.declared.set_kind.SetKind.{SetKind}
+use Rattle.definitions.specs.Faults.{SetFault}
+use Rattle.definitions.specs.Structure.{Set, Group, kind_of, group_fault, examined, groups_of}
+use Rattle.definitions.specs.Means.{Advice}
+use Rattle.definitions.specs.Events.{Event, Enrolment, Advised}
+use Rattle.definitions.specs.Movements.{Expected, IsExpectedWithin}
+use Rattle.definitions.specs.declared.refusals.Refusal.{Refusal}
+use Rattle.definitions.specs.Clerk.{performed}
+use Rattle.definitions.specs.Register.{Act, Count, Pick, Recount, Deed, Enrolled, Received, Performed, Entry, own}
+use Rattle.definitions.specs.History.{Rejection, event_of, judged, by_segment, outcome_of, verdicts_on, telling_of, events_told, tellings_on, events_added, History, after_entry, history, events}
+use Rattle.definitions.specs.Accepted.{IsLegal}
+use Rattle.definitions.proofs.EventsLaws.{came_to-append}
+use Rattle.definitions.proofs.HistoryLaws.{history_snoc}
+use Rattle.set_effects.specs.Judging.{passed, told_events}
 use Rattle.rules.specs.Played.{CanFollow, is_clean, no_history, number_after}
-use Rattle.sets_taken.proofs.Takes.{examined_length}
-use Rattle.sets_taken.proofs.Added.{of_performed}
+use Rattle.set_effects.proofs.Takes.{examined_length}
+use Rattle.set_effects.proofs.Added.{of_performed}
 use Rattle.rules.proofs.Plays.{added_of, clean_note}
 use Rattle.rules.proofs.Content.{content}
 use Rattle.rules.proofs.Registers.{Along1, follows_own}

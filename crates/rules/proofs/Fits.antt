@@ -6,23 +6,23 @@ use Rattle.std.specs.Cmp.Derive.{both_true}
 use Rattle.std.specs.List.{list_all, list_any}
 use Rattle.std.proofs.lemmas.List.{length-map}
 use Rattle.std.proofs.lemmas.List.Folds.{list_all-map}
-use Rattle.profile.specs.declared.rules.Rules.{Rules}
-use Rattle.profile.specs.declared.rules.Rules.TheVariants.{One, Two}
-use Rattle.profile.specs.Rules.{may_follow}
-use Rattle.profile.specs.Limits.{most_lines, most_entries}
-use Rattle.profile.specs.Bytes.{comes_before}
-use Rattle.profile.specs.Lists.{placed, in_order, or_else}
-use Rattle.profile.specs.Header.{Who, who_eq}
-use Rattle.profile.specs.Means.{Line, AdviceLine, Advice, OrderLine}
-use Rattle.profile.specs.Events.{Event, Enrolment, Advised, Ordered, Acknowledged, Counted, Picked, Recounted, pair_before, Reserved, is_pair, first_count, since, is_order_open}
-use Rattle.profile.specs.Register.{Entry, is_first, own}
-use Rattle.profile.specs.History.{events, history}
-use Rattle.profile.specs.Rows.{lot_row, named, running_rows}
-use Rattle.profile.specs.Page.{PageLine, advices_of, orders_of, reserved_lines, page_advice, page_line, page_order, page_advices, page_orders, page_of}
-use Rattle.profile.specs.Decision.{standing}
-use Rattle.profile.specs.Accepted.{IsLegal}
-use Rattle.profile.proofs.TextLaws.{both_parts}
-use Rattle.profile.proofs.RegisterLaws.{legal-first, first_is}
+use Rattle.definitions.specs.declared.rules.Rules.{Rules}
+use Rattle.definitions.specs.declared.rules.Rules.TheVariants.{One, Two}
+use Rattle.definitions.specs.Rules.{may_follow}
+use Rattle.definitions.specs.Limits.{most_lines, most_entries}
+use Rattle.definitions.specs.Bytes.{comes_before}
+use Rattle.definitions.specs.Lists.{placed, in_order, or_else}
+use Rattle.definitions.specs.Header.{Who, who_eq}
+use Rattle.definitions.specs.Means.{Line, AdviceLine, Advice, OrderLine}
+use Rattle.definitions.specs.Events.{Event, Enrolment, Advised, Ordered, Acknowledged, Counted, Picked, Recounted, pair_before, Reserved, is_pair, first_count, since, is_order_open}
+use Rattle.definitions.specs.Register.{Entry, is_first, own}
+use Rattle.definitions.specs.History.{events, history}
+use Rattle.definitions.specs.Rows.{lot_row, named, running_rows}
+use Rattle.definitions.specs.Page.{PageLine, advices_of, orders_of, reserved_lines, page_advice, page_line, page_order, page_advices, page_orders, page_of}
+use Rattle.definitions.specs.Decision.{standing}
+use Rattle.definitions.specs.Accepted.{IsLegal}
+use Rattle.definitions.proofs.TextLaws.{both_parts}
+use Rattle.definitions.proofs.RegisterLaws.{legal-first, first_is}
 use Rattle.stock.specs.Shows.{is_numbered_within}
 use Rattle.stock.proofs.Keys.{all_filter}
 use Rattle.stock.proofs.Allots.{all_in_order}

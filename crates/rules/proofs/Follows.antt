@@ -3,26 +3,26 @@ use Rattle.std.proofs.Common.{◌≡◌, ℕ, ◌+◌, ◌≤◌, Bool, true, fa
 use Rattle.std.specs.Prelude.{◌&&◌, ◌==◌, nat_lt, is_none, bytes_eq, option_map, Result, Ok, Err, if◌then◌else◌}
 use Rattle.std.specs.Cmp.Derive.{both_true}
 use borrow.Author.Tests.{ltb-false, eqb-true}
-use Rattle.profile.specs.declared.rules.Rules.{Rules}
-use Rattle.profile.specs.Limits.{most_entries}
-use Rattle.profile.specs.Moments.{Moment, is_moment}
-use Rattle.profile.specs.Header.{Who, is_partner, sender, isa, is_unreadable}
-use Rattle.profile.specs.Lists.{or_else}
-use Rattle.profile.specs.Events.{Event}
-use Rattle.profile.specs.declared.refusals.Refusal.{Refusal}
-use Rattle.profile.specs.declared.refusals.Refusal.TheVariants.{Unreadable, Duplicate, TicketUsed}
-use Rattle.profile.specs.Clerk.{performed}
-use Rattle.profile.specs.Halt.{header_notes, structure_notes, structure_note}
-use Rattle.profile.specs.Register.{Command, Interchange, Enrol, Clerk, Act, Deed, Enrolled, Received, Performed, Entry, own, command_mark, interchange_mark, ticket_mark, canonical, Known, known as find_known}
-use Rattle.profile.specs.History.{History, history}
-use Rattle.profile.specs.Reply.{reply, interchange_entry, clerk_entry, refusal_answer, Reply, Stored, Refused, stored}
-use Rattle.profile.specs.Decision as known
-use Rattle.profile.specs.Decision.{standing, recalled, reply_by}
-use Rattle.profile.specs.Accepted.{depositor_of, own_of, reply_to, is_accepted, entry_of, after, is_command, IsLegal, Ruled, left_by, each_given}
-use Rattle.profile.proofs.TextLaws.{both_parts, same_text}
-use Rattle.profile.proofs.DecisionLaws.{reply-by}
-use Rattle.profile.proofs.RegisterLaws.{accepted_entry, accepted_sender}
-use Rattle.profile.proofs.RisingLaws.{legal-ruled}
+use Rattle.definitions.specs.declared.rules.Rules.{Rules}
+use Rattle.definitions.specs.Limits.{most_entries}
+use Rattle.definitions.specs.Moments.{Moment, is_moment}
+use Rattle.definitions.specs.Header.{Who, is_partner, sender, isa, is_unreadable}
+use Rattle.definitions.specs.Lists.{or_else}
+use Rattle.definitions.specs.Events.{Event}
+use Rattle.definitions.specs.declared.refusals.Refusal.{Refusal}
+use Rattle.definitions.specs.declared.refusals.Refusal.TheVariants.{Unreadable, Duplicate, TicketUsed}
+use Rattle.definitions.specs.Clerk.{performed}
+use Rattle.definitions.specs.Halt.{header_notes, structure_notes, structure_note}
+use Rattle.definitions.specs.Register.{Command, Interchange, Enrol, Clerk, Act, Deed, Enrolled, Received, Performed, Entry, own, command_mark, interchange_mark, ticket_mark, canonical, Known, known as find_known}
+use Rattle.definitions.specs.History.{History, history}
+use Rattle.definitions.specs.Reply.{reply, interchange_entry, clerk_entry, refusal_answer, Reply, Stored, Refused, stored}
+use Rattle.definitions.specs.Decision as known
+use Rattle.definitions.specs.Decision.{standing, recalled, reply_by}
+use Rattle.definitions.specs.Accepted.{depositor_of, own_of, reply_to, is_accepted, entry_of, after, is_command, IsLegal, Ruled, left_by, each_given}
+use Rattle.definitions.proofs.TextLaws.{both_parts, same_text}
+use Rattle.definitions.proofs.DecisionLaws.{reply-by}
+use Rattle.definitions.proofs.RegisterLaws.{accepted_entry, accepted_sender}
+use Rattle.definitions.proofs.RisingLaws.{legal-ruled}
 use Rattle.envelope.specs.Conditions.{first_note}
 use Rattle.envelope.specs.Halting.{first_appended}
 use Rattle.rules.specs.Played.{CanFollow}

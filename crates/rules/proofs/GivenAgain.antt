@@ -2,13 +2,13 @@
 -- same entry.
 use Rattle.std.proofs.Common.{◌≡◌, Bool, true, false, List, [], ◌∷◌, ◌++◌, refl, sym, ap, ◌∙◌, subst, append_assoc, append-nil}
 use Rattle.std.specs.Prelude.{◌&&◌, map, if◌then◌else◌}
-use Rattle.profile.specs.declared.rules.Rules.{Rules}
-use Rattle.profile.specs.Moments.{Moment, is_moment}
-use Rattle.profile.specs.Header.{Who}
-use Rattle.profile.specs.Register.{Command, Interchange, Enrol, Clerk, Entry}
-use Rattle.profile.specs.Accepted.{reply_to, is_accepted, entry_of, after, is_command, IsLegal, Ruled, left_by, each_given}
-use Rattle.profile.proofs.TextLaws.{both_parts}
-use Rattle.profile.proofs.RisingLaws.{legal-ruled}
+use Rattle.definitions.specs.declared.rules.Rules.{Rules}
+use Rattle.definitions.specs.Moments.{Moment, is_moment}
+use Rattle.definitions.specs.Header.{Who}
+use Rattle.definitions.specs.Register.{Command, Interchange, Enrol, Clerk, Entry}
+use Rattle.definitions.specs.Accepted.{reply_to, is_accepted, entry_of, after, is_command, IsLegal, Ruled, left_by, each_given}
+use Rattle.definitions.proofs.TextLaws.{both_parts}
+use Rattle.definitions.proofs.RisingLaws.{legal-ruled}
 use Rattle.rules.specs.Given.{given_by, given_at, given_under}
 
 -- an entry is of the command that made it, and of the rules of its day

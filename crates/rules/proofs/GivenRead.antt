@@ -1,15 +1,15 @@
 -- What the key and the body of an entry that is written down say of it.
 use Rattle.std.proofs.Common.{◌≡◌, ℕ, true, List, [], ◌∷◌, sym, ap, ◌∙◌, subst, arith, get_or, drop, Option, Some}
 use Rattle.std.specs.Prelude.{◌&&◌}
-use Rattle.profile.specs.declared.rules.Rules.{Rules}
-use Rattle.profile.specs.Moments.{is_moment}
-use Rattle.profile.specs.Header.{Who, is_partner, isa}
-use Rattle.profile.specs.Register.{Clerk, Act, Deed, Enrolled, Received, Performed, Entry, canonical, deed_mark, body_of}
-use Rattle.profile.specs.Clerk.{is_act}
-use Rattle.profile.specs.Readings.{act_of, is_deed, is_entry}
-use Rattle.profile.proofs.TextLaws.{both_parts}
+use Rattle.definitions.specs.declared.rules.Rules.{Rules}
+use Rattle.definitions.specs.Moments.{is_moment}
+use Rattle.definitions.specs.Header.{Who, is_partner, isa}
+use Rattle.definitions.specs.Register.{Clerk, Act, Deed, Enrolled, Received, Performed, Entry, canonical, deed_mark, body_of}
+use Rattle.definitions.specs.Clerk.{is_act}
+use Rattle.definitions.specs.Readings.{act_of, is_deed, is_entry}
+use Rattle.definitions.proofs.TextLaws.{both_parts}
 use Rattle.rules.specs.Given.{RuledCommand, given_as, ruled_by}
-use Rattle.repeats.specs.Written.{Written, written_as}
+use Rattle.entries.specs.Written.{Written, written_as}
 use Rattle.rules.proofs.ReadBack.{act_of-is}
 
 -- what is read of a text is an act

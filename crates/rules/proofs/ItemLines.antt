@@ -5,12 +5,12 @@ use Rattle.std.proofs.lemmas.Bool.{and_parts, cases_Bool, cases_lt, both_ways}
 use Rattle.std.proofs.lemmas.Slice.Eq.{bytes_eq-Decides}
 use Rattle.std.specs.List.{list_all}
 use Rattle.std.specs.Prelude.{nat_le}
-use Rattle.profile.specs.declared.rules.Rules.TheVariants.{Two}
-use Rattle.profile.specs.Bytes.{comes_before}
-use Rattle.profile.specs.Clerk.{is_ascending, is_sheet, is_sheet_line}
-use Rattle.profile.specs.declared.sheet_kind.SheetKind.TheVariants.{Recount as RecountSheet}
-use Rattle.profile.specs.Limits.{most_lines}
-use Rattle.profile.specs.Means.{Line}
+use Rattle.definitions.specs.Rules.{Today}
+use Rattle.definitions.specs.Bytes.{comes_before}
+use Rattle.definitions.specs.Clerk.{is_ascending, is_sheet, is_sheet_line}
+use Rattle.definitions.specs.declared.sheet_kind.SheetKind.TheVariants.{Recount as RecountSheet}
+use Rattle.definitions.specs.Limits.{most_lines}
+use Rattle.definitions.specs.Means.{Line}
 use Rattle.stock.specs.Keyed.{IsRank}
 use Rattle.stock.proofs.KeyLemmas.{not_true, not_false}
 use Rattle.stock.proofs.Texts.{texts_never, texts_through, texts_total}
@@ -53,8 +53,8 @@ module _ (sheet : List Line) (item : List ℕ) (s e : ℕ) (start : IsRank comes
       (λ k d le within. other_item (get_or sheet k d) item (λ same.
       both_ways (comes_before item item) (texts_never item) (ap (comes_before item) (sym same) ∙ not_false (comes_before item (get_or sheet k d).item) (end.above k d (omega (arith, le, item_within)) within))))
 
-pub sheet_ascends : (ls : List Line) → is_sheet Two RecountSheet ls ≡ true → is_ascending ls ≡ true
-sheet_ascends ls h = (and_parts (nat_le (length ls) (most_lines Two) && list_all (is_sheet_line Two RecountSheet) ls) (is_ascending ls) h).1
+pub sheet_ascends : (ls : List Line) → is_sheet Today RecountSheet ls ≡ true → is_ascending ls ≡ true
+sheet_ascends ls h = (and_parts (nat_le (length ls) (most_lines Today) && list_all (is_sheet_line Today RecountSheet) ls) (is_ascending ls) h).1
 
 pub filter_length : {X : Type 0} (p : X → Bool) (xs : List X) → length (filter p xs) ≤ length xs
 filter_length p [] = omega arith

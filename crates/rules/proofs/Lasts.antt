@@ -6,8 +6,8 @@ use Rattle.std.specs.List.{list_any}
 use Rattle.std.proofs.lemmas.Bool.{cases_Bool}
 use Rattle.std.proofs.lemmas.List.{get_or_default, length-set, reverse-append}
 use Rattle.std.proofs.lemmas.List.Sums.{sum_by-cons}
-use Rattle.profile.specs.History.{History}
-use Rattle.profile.specs.Rows.{LotRow}
+use Rattle.definitions.specs.History.{History}
+use Rattle.definitions.specs.Rows.{LotRow}
 use Rattle.stock.specs.Keyed.{Pair, key_before, row_key, put_row, IsSorted}
 use Rattle.stock.specs.Moved.{IsPlace}
 use Rattle.stock.specs.OfPairs.{is_row, of_pair, date_of_pair, one}
@@ -19,10 +19,10 @@ use Rattle.stock.specs.Puts.{put_change}
 use Rattle.stock.specs.declared.steps.Change.{Change}
 use Rattle.stock.specs.declared.steps.Change.TheVariants.{Stock, Advice, Order, Sent, Document}
 use Rattle.rules.specs.Lasting.{is_of, is_replaced, lasting, HasPairsOnce, HaveRows, AreMarked}
-use Rattle.sets_taken.specs.Proper.{KeepsDate, AreProper}
+use Rattle.set_effects.specs.Proper.{KeepsDate, AreProper}
 use Rattle.rules.specs.Decided.{IsPageOf, AreLeading}
-use Rattle.sets_taken.proofs.Dates.{AreKept, date_put, same_kept}
-use Rattle.sets_taken.proofs.KeyedLists.{same_found}
+use Rattle.set_effects.proofs.Dates.{AreKept, date_put, same_kept}
+use Rattle.set_effects.proofs.KeyedLists.{same_found}
 
 -- Pairs.
 

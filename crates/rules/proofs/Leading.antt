@@ -1,32 +1,32 @@
 -- The changes of accepted commands lead from the page of a history to that of one entry more.
 use Rattle.std.proofs.Common.{◌≡◌, ℕ, ◌+◌, List, [], ◌∷◌, ◌++◌, Option, Some, None, Ok, false, sym, ap, subst, ◌∙◌}
 use Rattle.std.specs.Prelude.{Result, is_some}
-use Rattle.profile.specs.declared.rules.Rules.{Rules}
-use Rattle.profile.specs.Moments.{Moment}
-use Rattle.profile.specs.Header.{Who, delims_of}
-use Rattle.profile.specs.Cut.{cut}
-use Rattle.profile.specs.Structure.{groups_of}
-use Rattle.profile.specs.Events.{Event}
-use Rattle.profile.specs.declared.refusals.Refusal.{Refusal}
-use Rattle.profile.specs.Clerk.{performed}
-use Rattle.profile.specs.History.{History, events_added, after_entry}
-use Rattle.profile.specs.Texts.{Told}
-use Rattle.profile.specs.Register.{Act, Command, Received, Performed}
-use Rattle.profile.specs.Reply.{interchange_entry, clerk_entry}
+use Rattle.definitions.specs.declared.rules.Rules.{Rules}
+use Rattle.definitions.specs.Moments.{Moment}
+use Rattle.definitions.specs.Header.{Who, delims_of}
+use Rattle.definitions.specs.Cut.{cut}
+use Rattle.definitions.specs.Structure.{groups_of}
+use Rattle.definitions.specs.Events.{Event}
+use Rattle.definitions.specs.declared.refusals.Refusal.{Refusal}
+use Rattle.definitions.specs.Clerk.{performed}
+use Rattle.definitions.specs.History.{History, events_added, after_entry}
+use Rattle.definitions.specs.Texts.{Told}
+use Rattle.definitions.specs.Register.{Act, Command, Received, Performed}
+use Rattle.definitions.specs.Reply.{interchange_entry, clerk_entry}
 use Rattle.stock.specs.declared.steps.Change.{Change}
 use Rattle.stock.specs.Pages.{PageFacts}
 use Rattle.stock.specs.Puts.{put}
 use Rattle.stock.specs.Shows.{Shows}
 use Rattle.stock.proofs.PageLemmas.{next_shows}
 use Rattle.stock.specs.Parts.{Named, IsPart}
-use Rattle.sets_taken.specs.SetNames.{NamesGroups}
+use Rattle.set_effects.specs.SetNames.{NamesGroups}
 use Rattle.rules.specs.Needs.{NamesAct}
-use Rattle.sets_taken.specs.Judging.{after, AreGroupsTaken}
-use Rattle.sets_taken.specs.Proper.{AreProper}
+use Rattle.set_effects.specs.Judging.{after, AreGroupsTaken}
+use Rattle.set_effects.specs.Proper.{AreProper}
 use Rattle.rules.specs.Decided.{MakesEntry, IsPageOf, AreLeading, LeadsOn, LeadsFrom, ChangesNothing}
-use Rattle.repeats.specs.Replies.{IsNoEntry}
-use Rattle.repeats.specs.declared.decisions.Decision.{Decision}
-use Rattle.repeats.specs.declared.decisions.Decision.TheVariants.{Stored, Refused, Accepted}
+use Rattle.entries.specs.Replies.{IsNoEntry}
+use Rattle.entries.specs.declared.decisions.Decision.{Decision}
+use Rattle.entries.specs.declared.decisions.Decision.TheVariants.{Stored, Refused, Accepted}
 use Rattle.rules.proofs.Plays.{added_of}
 
 pub interchange_leads : (r : Rules) (text : List ℕ) (t : Moment) (p new P : PageFacts) (told : List Told) (cs : List Change) (h : History) (n : Named)

@@ -6,41 +6,41 @@ use Rattle.std.specs.List.{list_all}
 use borrow.Author.Tests.{eqb-true}
 use Rattle.std.proofs.lemmas.Bool.{both_ways, and_parts}
 use Rattle.std.proofs.lemmas.Grind.{flat_map-append}
-use Rattle.profile.specs.declared.rules.Rules.{Rules}
-use Rattle.profile.specs.declared.rules.Rules.TheVariants.{One, Two}
-use Rattle.profile.specs.Bytes.{comes_before}
-use Rattle.profile.specs.Moments.{Moment}
-use Rattle.profile.specs.Header.{Who, who_text, who_eq}
-use Rattle.profile.specs.Rows.{LotRow, OutRow, state_text, running_rows, new_out_row, outgoing_rows}
-use Rattle.profile.specs.Page.{PageAdvice, PageOrder, page_advices, page_orders}
-use Rattle.profile.specs.Register.{Command, Interchange, Enrol, Clerk, Deed, Enrolled, Entry, is_numbered, own}
-use Rattle.profile.specs.History.{History, history, events, after_entry}
-use Rattle.profile.specs.Decision.{standing}
-use Rattle.profile.specs.Accepted.{IsLegal, entry_of, own_of}
-use Rattle.profile.specs.Tables.{TableRow, AllTables, for_each, tables, book_table, entry_row, entry_table, entry_rules_row, entry_rules_table, outgoing_table, stock_table, advice_table, advice_line_table, orders_table, order_line_table, reservation_table, lot_expiry_table, outgoing_cells, outgoing_row, stock_cells, expiry_cells, advice_cells, advice_line_cells, orders_cells, order_line_cells, reservation_cells, advice_rows, advice_line_rows, orders_rows, order_line_rows, reservation_rows}
-use Rattle.profile.specs.Changes as tables
-use Rattle.profile.specs.Changes.{in_table, with_state, is_reserved_for, changed, changed_by, with_entry, LeadOn}
-use Rattle.profile.specs.Schema.{put_row, schema_named}
-use Rattle.profile.proofs.HistoryLaws.{history-numbered, history_snoc}
+use Rattle.definitions.specs.declared.rules.Rules.{Rules}
+use Rattle.definitions.specs.declared.rules.Rules.TheVariants.{One, Two}
+use Rattle.definitions.specs.Bytes.{comes_before}
+use Rattle.definitions.specs.Moments.{Moment}
+use Rattle.definitions.specs.Header.{Who, who_text, who_eq}
+use Rattle.definitions.specs.Rows.{LotRow, OutRow, state_text, running_rows, new_out_row, outgoing_rows}
+use Rattle.definitions.specs.Page.{PageAdvice, PageOrder, page_advices, page_orders}
+use Rattle.definitions.specs.Register.{Command, Interchange, Enrol, Clerk, Deed, Enrolled, Entry, is_numbered, own}
+use Rattle.definitions.specs.History.{History, history, events, after_entry}
+use Rattle.definitions.specs.Decision.{standing}
+use Rattle.definitions.specs.Accepted.{IsLegal, entry_of, own_of}
+use Rattle.definitions.specs.Tables.{TableRow, AllTables, for_each, tables, book_table, entry_row, entry_table, entry_rules_row, entry_rules_table, outgoing_table, stock_table, advice_table, advice_line_table, orders_table, order_line_table, reservation_table, lot_expiry_table, outgoing_cells, outgoing_row, stock_cells, expiry_cells, advice_cells, advice_line_cells, orders_cells, order_line_cells, reservation_cells, advice_rows, advice_line_rows, orders_rows, order_line_rows, reservation_rows}
+use Rattle.definitions.specs.Changes as tables
+use Rattle.definitions.specs.Changes.{in_table, with_state, is_reserved_for, changed, changed_by, with_entry, LeadOn}
+use Rattle.definitions.specs.Schema.{put_row, schema_named}
+use Rattle.definitions.proofs.HistoryLaws.{history-numbered, history_snoc}
 use Rattle.stock.specs.Pages.{PageFacts, AreSorted}
 use Rattle.stock.specs.Shows.{Shows}
 use Rattle.stock.specs.declared.steps.Change.{Change}
 use Rattle.stock.proofs.Texts.{texts_never}
 use Rattle.rules.specs.Needs.{HasNeeded}
 use Rattle.rules.specs.Decided.{IsPageOf, AreLeading, StandsFor, LeadsFrom, led_to}
-use Rattle.sets_taken.specs.Tabled.{table_changes}
+use Rattle.set_effects.specs.Tabled.{table_changes}
 use Rattle.rules.specs.Decided.{LeadsInTables}
-use Rattle.repeats.specs.declared.decisions.Decision.{Decision}
-use Rattle.repeats.specs.declared.decisions.Decision.TheVariants.{Stored, Refused, Accepted}
+use Rattle.entries.specs.declared.decisions.Decision.{Decision}
+use Rattle.entries.specs.declared.decisions.Decision.TheVariants.{Stored, Refused, Accepted}
 use Rattle.rules.proofs.Follows.{legal_follow, own_sender}
 use Rattle.rules.proofs.Plays.{clean_read}
 use Rattle.rules.proofs.Registers.{who_is, own_with, own_without, done_own}
-use Rattle.sets_taken.proofs.Rowed.{rows_in_order}
+use Rattle.set_effects.proofs.Rowed.{rows_in_order}
 use Rattle.rules.proofs.Once.{advices_once, orders_once}
 use Rattle.rules.proofs.Paged.{advices_are_page, orders_are_page}
-use Rattle.sets_taken.proofs.Blocks.{prefixed, blocks, blocks_below, blocks_above}
-use Rattle.sets_taken.proofs.TableSteps.{Sides, IsBeside, framed, eleven, Others, AreBeside, of_page}
-use Rattle.sets_taken.proofs.TableChanges.{steps, sorted_with_all}
+use Rattle.set_effects.proofs.Blocks.{prefixed, blocks, blocks_below, blocks_above}
+use Rattle.set_effects.proofs.TableSteps.{Sides, IsBeside, framed, eleven, Others, AreBeside, of_page}
+use Rattle.set_effects.proofs.TableChanges.{steps, sorted_with_all}
 use Rattle.rules.proofs.Depositors.{IsAmong, among, partner_of, unnumbered}
 use Rattle.rules.proofs.SentRows.{entry_put, entry_rules_put, row_put, all_framed, AreStates, rows_led, new_lower}
 

@@ -2,20 +2,20 @@
 use Rattle.std.proofs.Common.{◌≡◌, ℕ, ◌+◌, ◌≤◌, Bool, true, false, not, List, [], ◌∷◌, ◌++◌, length, Some, None, refl, sym, ap, ◌∙◌, subst, arith, append_assoc, append-nil}
 use Rattle.std.specs.Prelude.{◌==◌, if◌then◌else◌, sum_by}
 use borrow.Author.Tests.{eqb-true}
-use Rattle.profile.specs.declared.rules.Rules.{Rules}
-use Rattle.profile.specs.Limits.{most_entries}
-use Rattle.profile.specs.Moments.{Moment}
-use Rattle.profile.specs.Header.{Who, delims_of}
-use Rattle.profile.specs.Cut.{cut}
-use Rattle.profile.specs.Structure.{Group, groups_of}
-use Rattle.profile.specs.Clerk.{is_act}
-use Rattle.profile.specs.Register.{Deed, Enrolled, Received, Performed, Entry, is_numbered, own}
-use Rattle.profile.specs.Readings.{is_entry, is_deed}
-use Rattle.profile.specs.History.{History, after_entry, history, events_added}
-use Rattle.profile.specs.Decision.{standing}
-use Rattle.profile.specs.Accepted.{IsLegal}
-use Rattle.profile.proofs.TextLaws.{both_parts}
-use Rattle.profile.proofs.HistoryLaws.{history_snoc}
+use Rattle.definitions.specs.declared.rules.Rules.{Rules}
+use Rattle.definitions.specs.Limits.{most_entries}
+use Rattle.definitions.specs.Moments.{Moment}
+use Rattle.definitions.specs.Header.{Who, delims_of}
+use Rattle.definitions.specs.Cut.{cut}
+use Rattle.definitions.specs.Structure.{Group, groups_of}
+use Rattle.definitions.specs.Clerk.{is_act}
+use Rattle.definitions.specs.Register.{Deed, Enrolled, Received, Performed, Entry, is_numbered, own}
+use Rattle.definitions.specs.Readings.{is_entry, is_deed}
+use Rattle.definitions.specs.History.{History, after_entry, history, events_added}
+use Rattle.definitions.specs.Decision.{standing}
+use Rattle.definitions.specs.Accepted.{IsLegal}
+use Rattle.definitions.proofs.TextLaws.{both_parts}
+use Rattle.definitions.proofs.HistoryLaws.{history_snoc}
 use Rattle.stock.specs.Pages.{PageFacts, next_entry}
 use Rattle.stock.proofs.Grown.{IsMore, received_more, performed_more}
 use Rattle.stock.proofs.PageLemmas.{blank_sound, blank_shows, next_sound, next_shows}

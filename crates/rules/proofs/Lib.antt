@@ -40,9 +40,9 @@ pub use Rattle.stock.proofs.Orders
 pub use Rattle.stock.proofs.PageLemmas
 pub use Rattle.stock.proofs.PartLaws
 pub use Rattle.stock.proofs.Texts
-pub use Rattle.sets_taken.proofs.Blocks
-pub use Rattle.sets_taken.proofs.KeyedLists
-pub use Rattle.sets_taken.proofs.Portions
-pub use Rattle.sets_taken.proofs.Rowed
-pub use Rattle.sets_taken.proofs.TableSteps
-pub use Rattle.sets_taken.proofs.Tables
+pub use Rattle.set_effects.proofs.Blocks
+pub use Rattle.set_effects.proofs.KeyedLists
+pub use Rattle.set_effects.proofs.Portions
+pub use Rattle.set_effects.proofs.Rowed
+pub use Rattle.set_effects.proofs.TableSteps
+pub use Rattle.set_effects.proofs.Tables

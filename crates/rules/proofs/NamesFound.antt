@@ -5,9 +5,9 @@ use Rattle.std.specs.Prelude.{filter, flat_map, find}
 use Rattle.std.specs.List.{list_all}
 use Rattle.std.specs.Cmp.Derive.{both_true}
 use Rattle.std.proofs.lemmas.List.Concat.{flat_map-cons}
-use Rattle.profile.specs.Bytes.{is_one_of}
-use Rattle.profile.proofs.TextLaws.{same_text, text_is, both_parts}
-use Rattle.profile.proofs.NeedLaws.{in_left, in_right, or_left, or_right}
+use Rattle.definitions.specs.Bytes.{is_one_of}
+use Rattle.definitions.proofs.TextLaws.{same_text, text_is, both_parts}
+use Rattle.definitions.proofs.NeedLaws.{in_left, in_right, or_left, or_right}
 
 same_found : {X : Type 0} (a b : X) → ◌≡◌ {A = Option X} (Some a) (Some b) → a ≡ b
 same_found a b e = cc e

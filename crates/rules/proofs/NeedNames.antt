@@ -2,27 +2,27 @@
 use Rattle.std.proofs.Common.{◌≡◌, ℕ, true, List, [], ◌∷◌, ◌++◌, map, refl, sym, ap, ◌∙◌, Option, Some, None}
 use Rattle.std.specs.Prelude.{flat_map}
 use Rattle.std.specs.List.{list_all}
-use Rattle.profile.specs.declared.rules.Rules.{Rules}
-use Rattle.profile.specs.Bytes.{Delims, is_one_of}
-use Rattle.profile.specs.Cut.{cut}
-use Rattle.profile.specs.Header.{delims_of}
-use Rattle.profile.specs.Words.{kind_words}
-use Rattle.profile.specs.declared.set_kind.SetKind.{SetKind}
-use Rattle.profile.specs.declared.set_kind.SetKind.TheVariants.{ShippingOrder, ShipmentAdvice, FunctionalAcknowledgment}
-use Rattle.profile.specs.Faults.{set_fault}
-use Rattle.profile.specs.Structure.{Set, Group, control_of, envelope_fault, examined_on, groups_of, kind_of}
-use Rattle.profile.specs.Means.{Line, advised, advice_of, order_of}
-use Rattle.profile.specs.Register.{Act, Count, Pick, Recount, Command, Interchange, Enrol, Clerk}
-use Rattle.profile.specs.Page.{PageAdvice, PageOrder}
-use Rattle.profile.specs.Need.{Need, advices_in, all_together, items_in, items_of, need_of, need_of_act, need_of_text, orders_in}
-use Rattle.profile.proofs.NeedLaws.{Within, alone, in_left, in_right, within_left, within_right}
-use Rattle.profile.proofs.NamesLaws.{TwoAtLeast, advice_items, document_named, names_groups, need_of_group, need_of_groups, need_of_set, order_items, order_named, shipment_named, two_segments}
+use Rattle.definitions.specs.declared.rules.Rules.{Rules}
+use Rattle.definitions.specs.Bytes.{Delims, is_one_of}
+use Rattle.definitions.specs.Cut.{cut}
+use Rattle.definitions.specs.Header.{delims_of}
+use Rattle.definitions.specs.Words.{kind_words}
+use Rattle.definitions.specs.declared.set_kind.SetKind.{SetKind}
+use Rattle.definitions.specs.declared.set_kind.SetKind.TheVariants.{ShippingOrder, ShipmentAdvice, FunctionalAcknowledgment}
+use Rattle.definitions.specs.Faults.{set_fault}
+use Rattle.definitions.specs.Structure.{Set, Group, control_of, envelope_fault, examined_on, groups_of, kind_of}
+use Rattle.definitions.specs.Means.{Line, advised, advice_of, order_of}
+use Rattle.definitions.specs.Register.{Act, Count, Pick, Recount, Command, Interchange, Enrol, Clerk}
+use Rattle.definitions.specs.Page.{PageAdvice, PageOrder}
+use Rattle.definitions.specs.Need.{Need, advices_in, all_together, items_in, items_of, need_of, need_of_act, need_of_text, orders_in}
+use Rattle.definitions.proofs.NeedLaws.{Within, alone, in_left, in_right, within_left, within_right}
+use Rattle.definitions.proofs.NamesLaws.{TwoAtLeast, advice_items, document_named, names_groups, need_of_group, need_of_groups, need_of_set, order_items, order_named, shipment_named, two_segments}
 use Rattle.stock.specs.Pages.{PageFacts, IsSound, advice_at, is_in_lines, is_number, order_at}
 use Rattle.stock.specs.Parts.{IsClosed, IsPart, Named, are_items}
 use Rattle.rules.specs.Needs.{NamesAct, NamesFor}
-use Rattle.sets_taken.specs.SetNames.{NamesGroups, NamesJudged, NamesSet, NamesSets, NamesUnder}
+use Rattle.set_effects.specs.SetNames.{NamesGroups, NamesJudged, NamesSet, NamesSets, NamesUnder}
 use Rattle.rules.specs.Naming.{as_page, named_of}
-use Rattle.sets_taken.proofs.KeyedLists.{all_found}
+use Rattle.set_effects.proofs.KeyedLists.{all_found}
 use Rattle.rules.proofs.NamesFound.{all_among, found_among, mapped, one_of_all, others_closed, those_closed}
 
 module _ (need : Need) (P : PageFacts) where

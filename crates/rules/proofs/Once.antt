@@ -2,19 +2,19 @@
 -- only added where no earlier one has its number.
 use Rattle.std.proofs.Common.{◌≡◌, ℕ, ◌+◌, Bool, true, false, List, [], ◌∷◌, ◌++◌, ◌⊎◌, Option, Some, None, Ok, Err, refl, sym, ap, ◌∙◌, subst, inl, inr, append_assoc, append-nil}
 use Rattle.std.specs.Prelude.{Result, bytes_eq, fold, if◌then◌else◌}
-use Rattle.profile.specs.declared.rules.Rules.{Rules}
-use Rattle.profile.specs.Lists.{first_found}
-use Rattle.profile.specs.Means.{Advice}
-use Rattle.profile.specs.Events.{Event, Enrolment, Advised, Ordered, Acknowledged, Counted, Picked, Recounted, advice_if, advice_under, Reserved, order_if, order_under}
-use Rattle.profile.specs.declared.refusals.Refusal.{Refusal}
-use Rattle.profile.specs.Clerk.{performed}
-use Rattle.profile.specs.Register.{Act, Count, Pick, Recount, Deed, Enrolled, Received, Performed, Entry}
-use Rattle.profile.specs.History.{History, after_entry, events, events_added}
-use Rattle.profile.proofs.TextLaws.{text_is}
+use Rattle.definitions.specs.declared.rules.Rules.{Rules}
+use Rattle.definitions.specs.Lists.{first_found}
+use Rattle.definitions.specs.Means.{Advice}
+use Rattle.definitions.specs.Events.{Event, Enrolment, Advised, Ordered, Acknowledged, Counted, Picked, Recounted, advice_if, advice_under, Reserved, order_if, order_under}
+use Rattle.definitions.specs.declared.refusals.Refusal.{Refusal}
+use Rattle.definitions.specs.Clerk.{performed}
+use Rattle.definitions.specs.Register.{Act, Count, Pick, Recount, Deed, Enrolled, Received, Performed, Entry}
+use Rattle.definitions.specs.History.{History, after_entry, events, events_added}
+use Rattle.definitions.proofs.TextLaws.{text_is}
 use Rattle.rules.specs.Played.{no_history}
 use Rattle.rules.proofs.Plays.{added_of}
-use Rattle.sets_taken.proofs.Added.{IsOfSet, AreOfSets, IsOfAct, of_received, of_performed}
-use Rattle.sets_taken.proofs.KeyedLists.{Once, once_more}
+use Rattle.set_effects.proofs.Added.{IsOfSet, AreOfSets, IsOfAct, of_received, of_performed}
+use Rattle.set_effects.proofs.KeyedLists.{Once, once_more}
 
 -- what a set's event has only where no earlier event has it, and no other event
 pub record IsNew {Y : Type 0} (f : Event → Option Y) : Type 0 where

@@ -5,30 +5,30 @@ use Rattle.std.proofs.lemmas.Bool.{cases_Bool, both_ways, leb-true}
 use Rattle.std.proofs.lemmas.List.Folds.{list_any-append}
 use Rattle.std.specs.Prelude.{Result, nat_le}
 use Rattle.std.specs.List.{list_all, list_any}
-use Rattle.profile.specs.declared.rules.Rules.{Rules}
-use Rattle.profile.specs.declared.rules.Rules.TheVariants.{One, Two}
-use Rattle.profile.specs.Rules.{may_follow}
-use Rattle.profile.specs.Bytes.{Delims}
-use Rattle.profile.specs.Limits.{most_lines, most_quantity}
-use Rattle.profile.specs.Lists.{or_else}
-use Rattle.profile.specs.Cut.{Segment}
-use Rattle.profile.specs.Words.{kind_words}
-use Rattle.profile.specs.declared.set_kind.SetKind.{SetKind}
-use Rattle.profile.specs.declared.set_kind.SetKind.TheVariants.{ShippingOrder, ShipmentAdvice, FunctionalAcknowledgment}
-use Rattle.profile.specs.Faults.{SetFault, set_fault}
-use Rattle.profile.specs.Means.{Line, AdviceLine, Advice, advised, advice_of, order_of, acknowledgment_of}
-use Rattle.profile.specs.Events.{Event, Enrolment, Advised, Ordered, Acknowledged, Counted, Picked, Recounted, is_pair, quantity_of, repeated, same_advice_pair, repeated_pair, redated_pair, sooner, wrong_advice_total, expiry, advice_under, advice_fault_where, advice_fault, order_fault}
-use Rattle.profile.specs.Allotment.{order_shares}
-use Rattle.profile.specs.Movements.{Expected, OnHand, Reservation, Shipped, comes, goes, came_to}
-use Rattle.profile.specs.History.{unless, traded, judged}
-use Rattle.profile.proofs.TextLaws.{both_parts}
+use Rattle.definitions.specs.declared.rules.Rules.{Rules}
+use Rattle.definitions.specs.declared.rules.Rules.TheVariants.{One, Two}
+use Rattle.definitions.specs.Rules.{may_follow}
+use Rattle.definitions.specs.Bytes.{Delims}
+use Rattle.definitions.specs.Limits.{most_lines, most_quantity}
+use Rattle.definitions.specs.Lists.{or_else}
+use Rattle.definitions.specs.Cut.{Segment}
+use Rattle.definitions.specs.Words.{kind_words}
+use Rattle.definitions.specs.declared.set_kind.SetKind.{SetKind}
+use Rattle.definitions.specs.declared.set_kind.SetKind.TheVariants.{ShippingOrder, ShipmentAdvice, FunctionalAcknowledgment}
+use Rattle.definitions.specs.Faults.{SetFault, set_fault}
+use Rattle.definitions.specs.Means.{Line, AdviceLine, Advice, advised, advice_of, order_of, acknowledgment_of}
+use Rattle.definitions.specs.Events.{Event, Enrolment, Advised, Ordered, Acknowledged, Counted, Picked, Recounted, is_pair, quantity_of, repeated, same_advice_pair, repeated_pair, redated_pair, sooner, wrong_advice_total, expiry, advice_under, advice_fault_where, advice_fault, order_fault}
+use Rattle.definitions.specs.Allotment.{order_shares}
+use Rattle.definitions.specs.Movements.{Expected, OnHand, Reservation, Shipped, comes, goes, came_to}
+use Rattle.definitions.specs.History.{unless, traded, judged}
+use Rattle.definitions.proofs.TextLaws.{both_parts}
 use Rattle.stock.proofs.Events.{or_else_left}
 use Rattle.stock.proofs.Finds.{map_none}
 use Rattle.stock.proofs.OfPairLemmas.{pair_is}
 use Rattle.stock.proofs.Sums.{given_here}
 use Rattle.stock.proofs.Moves.{came_append, came_push, came_comes, came_goes}
 use Rattle.stock.proofs.Pairs.{quantity_yes, quantity_no}
-use Rattle.sets_taken.proofs.Judges.{judged_sound, judged_faulty}
+use Rattle.set_effects.proofs.Judges.{judged_sound, judged_faulty}
 use Rattle.rules.proofs.Small.{is_small, is_small_event, event_later, advice_small}
 
 -- Lines of which none is of a pair that stood before.

@@ -2,18 +2,18 @@
 use Rattle.std.proofs.Common.{◌≡◌, ℕ, Bool, true, cond, List, [], ◌∷◌, refl, sym, ap, ◌∙◌, Option, Some, None}
 use Rattle.std.specs.Prelude.{bytes_eq, find, option_map}
 use Rattle.std.proofs.lemmas.Slice.Eq.{bytes_eq-Decides}
-use Rattle.profile.specs.Bytes.{comes_before}
-use Rattle.profile.specs.Lists.{placed, in_order, or_else}
-use Rattle.profile.specs.Means.{Advice}
-use Rattle.profile.specs.Events.{Event, Enrolment, Advised, Ordered, Acknowledged, Counted, Picked, Recounted, advice_if, advice_under, Reserved, order_if, order_under}
-use Rattle.profile.specs.Page.{advices_of, orders_of, page_advice, page_order, page_advices, page_orders}
+use Rattle.definitions.specs.Bytes.{comes_before}
+use Rattle.definitions.specs.Lists.{placed, in_order, or_else}
+use Rattle.definitions.specs.Means.{Advice}
+use Rattle.definitions.specs.Events.{Event, Enrolment, Advised, Ordered, Acknowledged, Counted, Picked, Recounted, advice_if, advice_under, Reserved, order_if, order_under}
+use Rattle.definitions.specs.Page.{advices_of, orders_of, page_advice, page_order, page_advices, page_orders}
 use Rattle.stock.specs.Keyed.{rises_by, shipment_of, number_of}
 use Rattle.stock.specs.Pages.{PageFacts, AreSorted, is_shipment, is_number, advice_at, order_at}
 use Rattle.stock.specs.Shows.{Shows}
 use Rattle.stock.proofs.Keys.{IsTest}
 use Rattle.stock.proofs.KeyLemmas.{texts_strict, shipment_test, number_test}
 use Rattle.stock.proofs.Finds.{or_else_none}
-use Rattle.sets_taken.proofs.KeyedLists.{Once, last_found, once_last, find_map, rises_map, order_rises, find_ordered, same_found}
+use Rattle.set_effects.proofs.KeyedLists.{Once, last_found, once_last, find_map, rises_map, order_rises, find_ordered, same_found}
 
 -- Advices.
 

@@ -2,22 +2,22 @@
 use Rattle.std.proofs.Common.{◌≡◌, ℕ, ◌+◌, ◌<◌, false, List, Option, Some, None, Ok, refl, sym, ap, ◌∙◌, subst, arith}
 use Rattle.std.specs.Prelude.{Result, nat_lt}
 use Rattle.std.proofs.lemmas.Bool.{le-ltb}
-use Rattle.profile.specs.declared.rules.Rules.{Rules}
-use Rattle.profile.specs.Moments.{Moment}
-use Rattle.profile.specs.Header.{Who}
-use Rattle.profile.specs.Events.{Event}
-use Rattle.profile.specs.Clerk.{performed}
-use Rattle.profile.specs.Register.{Act, Command, Clerk, Entry, ticket_mark}
-use Rattle.repeats.specs.Written.{Recalled}
-use Rattle.profile.specs.History.{History}
-use Rattle.profile.specs.Decision as known
+use Rattle.definitions.specs.declared.rules.Rules.{Rules}
+use Rattle.definitions.specs.Moments.{Moment}
+use Rattle.definitions.specs.Header.{Who}
+use Rattle.definitions.specs.Events.{Event}
+use Rattle.definitions.specs.Clerk.{performed}
+use Rattle.definitions.specs.Register.{Act, Command, Clerk, Entry, ticket_mark}
+use Rattle.entries.specs.Written.{Recalled}
+use Rattle.definitions.specs.History.{History}
+use Rattle.definitions.specs.Decision as known
 use Rattle.rules.specs.Decided.{IsPageOf, IsRecalled, IsUnder, IsGiven, StandsFor, entries_of}
-use Rattle.repeats.specs.Replies.{IsReply}
-use Rattle.repeats.specs.declared.decisions.Decision.{Decision}
-use Rattle.profile.specs.Limits.{most_entries}
-use Rattle.profile.specs.Reply.{Accepted, clerk_entry}
-use Rattle.profile.specs.declared.refusals.Refusal.{Refusal}
-use Rattle.profile.specs.Texts.{document_of}
+use Rattle.entries.specs.Replies.{IsReply}
+use Rattle.entries.specs.declared.decisions.Decision.{Decision}
+use Rattle.definitions.specs.Limits.{most_entries}
+use Rattle.definitions.specs.Reply.{Accepted, clerk_entry}
+use Rattle.definitions.specs.declared.refusals.Refusal.{Refusal}
+use Rattle.definitions.specs.Texts.{document_of}
 use Rattle.sets_out.specs.declared.envelopes.Envelope.{Envelope}
 use Rattle.stock.specs.Pages.{PageFacts}
 use Rattle.rules.specs.Needs.{HasNeeded}

@@ -2,22 +2,22 @@
 use Rattle.std.proofs.Common.{◌≡◌, ℕ, ◌+◌, Bool, true, false, not, List, [], ◌∷◌, ◌++◌, Option, Some, None, Ok, Err, cond, refl, sym, ap, ◌∙◌, subst, append-nil, map}
 use Rattle.std.specs.Prelude.{Result, codes, is_none, ◌==◌}
 use Rattle.std.specs.List.{starts_with}
-use Rattle.profile.specs.declared.rules.Rules.{Rules}
-use Rattle.profile.specs.Moments.{Moment}
-use Rattle.profile.specs.Header.{Who, delims_of, is_unreadable}
-use Rattle.profile.specs.Cut.{cut}
-use Rattle.profile.specs.Structure.{groups_of}
-use Rattle.profile.specs.Halt.{structure_note}
-use Rattle.profile.specs.Events.{Event, Enrolment}
-use Rattle.profile.specs.declared.refusals.Refusal.{Refusal}
-use Rattle.profile.specs.Clerk.{performed, is_act}
-use Rattle.profile.specs.History.{History, tellings, events_added}
-use Rattle.profile.specs.Texts.{Told, told_of, answered, document_of}
-use Rattle.profile.specs.Register.{Act, Deed, Enrolled, Received, Performed, Entry, is_numbered, canonical}
-use Rattle.profile.specs.Readings.{is_entry, is_deed, act_of}
-use Rattle.profile.specs.Reply.{clerk_entry, written}
-use Rattle.profile.proofs.TextLaws.{both_parts}
-use Rattle.profile.proofs.ReadingLaws.{act_of-canonical}
+use Rattle.definitions.specs.declared.rules.Rules.{Rules}
+use Rattle.definitions.specs.Moments.{Moment}
+use Rattle.definitions.specs.Header.{Who, delims_of, is_unreadable}
+use Rattle.definitions.specs.Cut.{cut}
+use Rattle.definitions.specs.Structure.{groups_of}
+use Rattle.definitions.specs.Halt.{structure_note}
+use Rattle.definitions.specs.Events.{Event, Enrolment}
+use Rattle.definitions.specs.declared.refusals.Refusal.{Refusal}
+use Rattle.definitions.specs.Clerk.{performed, is_act}
+use Rattle.definitions.specs.History.{History, tellings, events_added}
+use Rattle.definitions.specs.Texts.{Told, told_of, answered, document_of}
+use Rattle.definitions.specs.Register.{Act, Deed, Enrolled, Received, Performed, Entry, is_numbered, canonical}
+use Rattle.definitions.specs.Readings.{is_entry, is_deed, act_of}
+use Rattle.definitions.specs.Reply.{clerk_entry, written}
+use Rattle.definitions.proofs.TextLaws.{both_parts}
+use Rattle.definitions.proofs.ReadingLaws.{act_of-canonical}
 use Rattle.sets_out.specs.Headings.{heading_of}
 use Rattle.sets_out.specs.Interchanges.{answer_of}
 use Rattle.sets_out.proofs.TextLaws.{answer-told}
@@ -26,8 +26,8 @@ use Rattle.stock.specs.Parts.{all_named}
 use Rattle.stock.specs.declared.steps.Change.{Change}
 use Rattle.stock.proofs.PartLemmas.{part_of_self}
 use Rattle.stock.specs.Shows.{Shows}
-use Rattle.repeats.specs.Written.{Written, written_as}
-use Rattle.sets_taken.specs.Judging.{AreGroupsTaken, after}
+use Rattle.entries.specs.Written.{Written, written_as}
+use Rattle.set_effects.specs.Judging.{AreGroupsTaken, after}
 use Rattle.rules.proofs.Whole.{all_groups}
 use Rattle.rules.specs.Decided.{IsPageOf}
 use Rattle.rules.specs.Played.{number_after, IsBefore, IsPlayed, IsReplayed, is_clean}

@@ -10,25 +10,25 @@ use Rattle.std.specs.Cmp.Derive.{both_true}
 use Rattle.std.proofs.lemmas.Bool.{cases_Bool}
 use Rattle.std.proofs.lemmas.Fmt.{decimal_nonempty, length-decimal-le}
 use Rattle.std.proofs.lemmas.Slice.Eq.{bytes_eq-Decides}
-use Rattle.profile.specs.declared.rules.Rules.{Rules}
-use Rattle.profile.specs.declared.rules.Rules.TheVariants.{One, Two}
-use Rattle.profile.specs.Limits.{most_lines}
-use Rattle.profile.specs.Bytes.{is_between, is_identifier_byte, is_identifier, is_digit, is_number, value}
-use Rattle.profile.specs.Lists.{placed, in_order, has_repeats}
-use Rattle.profile.specs.Means.{Line}
-use Rattle.profile.specs.Events.{is_pair, pair_before}
-use Rattle.profile.specs.declared.refusals.Refusal.{Refusal}
-use Rattle.profile.specs.declared.refusals.Refusal.TheVariants.{TooMuch, RepeatedLine, BadText, TooManyLines}
-use Rattle.profile.specs.Register.{Act, Count, Pick, Recount, canonical, line_text}
-use Rattle.profile.specs.Clerk.{RawLine, is_act, is_sheet, is_sheet_line, is_ascending, quantity_limit, least_quantity, is_too_much, picks_nothing, is_bad_line, same_raw_pair, raw_line, line_of, sheet_of}
-use Rattle.profile.specs.Readings.{parts_at, act_if, act_in, act_of}
-use Rattle.profile.proofs.TextLaws.{both_parts, text_is, all_in, all_both, split_first, split_last, decimal_reads}
-use Rattle.profile.proofs.ReadingLaws.{act_of-canonical, identifier_bytes}
-use Rattle.profile.proofs.SheetLaws.{sheet_of-is}
+use Rattle.definitions.specs.declared.rules.Rules.{Rules}
+use Rattle.definitions.specs.declared.rules.Rules.TheVariants.{One, Two}
+use Rattle.definitions.specs.Limits.{most_lines}
+use Rattle.definitions.specs.Bytes.{is_between, is_identifier_byte, is_identifier, is_digit, is_number, value}
+use Rattle.definitions.specs.Lists.{placed, in_order, has_repeats}
+use Rattle.definitions.specs.Means.{Line}
+use Rattle.definitions.specs.Events.{is_pair, pair_before}
+use Rattle.definitions.specs.declared.refusals.Refusal.{Refusal}
+use Rattle.definitions.specs.declared.refusals.Refusal.TheVariants.{TooMuch, RepeatedLine, BadText, TooManyLines}
+use Rattle.definitions.specs.Register.{Act, Count, Pick, Recount, canonical, line_text}
+use Rattle.definitions.specs.Clerk.{RawLine, is_act, is_sheet, is_sheet_line, is_ascending, quantity_limit, least_quantity, is_too_much, picks_nothing, is_bad_line, same_raw_pair, raw_line, line_of, sheet_of}
+use Rattle.definitions.specs.Readings.{parts_at, act_if, act_in, act_of}
+use Rattle.definitions.proofs.TextLaws.{both_parts, text_is, all_in, all_both, split_first, split_last, decimal_reads}
+use Rattle.definitions.proofs.ReadingLaws.{act_of-canonical, identifier_bytes}
+use Rattle.definitions.proofs.SheetLaws.{sheet_of-is}
 use Rattle.stock.proofs.Pairs.{ascending_once, count_yes, count_no}
 use Rattle.stock.proofs.Sums.{own_pair}
-use Rattle.profile.specs.declared.sheet_kind.SheetKind.TheVariants.{Count as CountSheet, Pick as PickSheet, Recount as RecountSheet}
-use Rattle.profile.specs.declared.sheet_kind.SheetKind.{SheetKind}
+use Rattle.definitions.specs.declared.sheet_kind.SheetKind.TheVariants.{Count as CountSheet, Pick as PickSheet, Recount as RecountSheet}
+use Rattle.definitions.specs.declared.sheet_kind.SheetKind.{SheetKind}
 use Rattle.rules.specs.ReadActs.{by_kind}
 use Rattle.rules.specs.Likely.{ActHead, named_head, head_in, record_in, with_sheet, act_from, act_among, likely_act}
 

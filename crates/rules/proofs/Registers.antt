@@ -3,22 +3,22 @@
 use Rattle.std.proofs.Common.{◌≡◌, ℕ, ◌+◌, Bool, true, false, List, [], ◌∷◌, ◌++◌, length, Option, Some, None, refl, sym, ap, ◌∙◌, subst, append_assoc, append-nil}
 use Rattle.std.specs.Prelude.{◌&&◌, ◌==◌, bytes_eq, if◌then◌else◌, Result, Ok, Err}
 use Rattle.std.proofs.lemmas.List.Elements.{filter-append}
-use Rattle.profile.specs.declared.rules.Rules.{Rules}
-use Rattle.profile.specs.Moments.{Moment, is_moment}
-use Rattle.profile.specs.Header.{Who, who_eq}
-use Rattle.profile.specs.Events.{Event}
-use Rattle.profile.specs.declared.refusals.Refusal.{Refusal}
-use Rattle.profile.specs.Clerk.{performed}
-use Rattle.profile.specs.Register.{Command, Interchange, Enrol, Clerk, Act, Deed, Enrolled, Received, Performed, Entry, own, ticket_mark, next_number}
-use Rattle.profile.specs.History.{History, history, events}
-use Rattle.profile.specs.Reply.{clerk_entry}
-use Rattle.profile.specs.Decision as known
-use Rattle.profile.specs.Decision.{standing, recalled}
-use Rattle.profile.specs.Accepted.{reply_to, is_accepted, entry_of, after, is_command, IsLegal, Ruled, left_by, each_given}
-use Rattle.profile.proofs.TextLaws.{both_parts, text_is, same_text}
-use Rattle.profile.proofs.HistoryLaws.{history-numbered}
-use Rattle.profile.proofs.DecisionLaws.{reply-by}
-use Rattle.profile.proofs.RisingLaws.{legal-ruled}
+use Rattle.definitions.specs.declared.rules.Rules.{Rules}
+use Rattle.definitions.specs.Moments.{Moment, is_moment}
+use Rattle.definitions.specs.Header.{Who, who_eq}
+use Rattle.definitions.specs.Events.{Event}
+use Rattle.definitions.specs.declared.refusals.Refusal.{Refusal}
+use Rattle.definitions.specs.Clerk.{performed}
+use Rattle.definitions.specs.Register.{Command, Interchange, Enrol, Clerk, Act, Deed, Enrolled, Received, Performed, Entry, own, ticket_mark, next_number}
+use Rattle.definitions.specs.History.{History, history, events}
+use Rattle.definitions.specs.Reply.{clerk_entry}
+use Rattle.definitions.specs.Decision as known
+use Rattle.definitions.specs.Decision.{standing, recalled}
+use Rattle.definitions.specs.Accepted.{reply_to, is_accepted, entry_of, after, is_command, IsLegal, Ruled, left_by, each_given}
+use Rattle.definitions.proofs.TextLaws.{both_parts, text_is, same_text}
+use Rattle.definitions.proofs.HistoryLaws.{history-numbered}
+use Rattle.definitions.proofs.DecisionLaws.{reply-by}
+use Rattle.definitions.proofs.RisingLaws.{legal-ruled}
 use Rattle.rules.specs.Played.{CanFollow}
 use Rattle.rules.proofs.Follows.{can_follow, act_refused}
 

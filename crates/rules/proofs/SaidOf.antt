@@ -5,17 +5,17 @@ use Rattle.std.specs.Prelude.{Result, is_some, fold, option_map, if◌then◌els
 use Rattle.std.specs.Option.{option_or}
 use borrow.Author.Tests.{eqb-true}
 use Rattle.std.proofs.lemmas.Bool.{cases_Bool, ne_eqb, eq-eqb, le-ltb}
-use Rattle.profile.specs.declared.rules.Rules.{Rules}
-use Rattle.profile.specs.Lists.{or_else}
-use Rattle.profile.specs.Moments.{Moment}
-use Rattle.profile.specs.Header.{Who}
-use Rattle.profile.specs.Events.{Event, Enrolment, Advised, Ordered, Acknowledged, Counted, Picked, Recounted}
-use Rattle.profile.specs.declared.refusals.Refusal.{Refusal}
-use Rattle.profile.specs.Clerk.{performed}
-use Rattle.profile.specs.Rows.{OutRow, acknowledges, said_of, state_text}
-use Rattle.profile.specs.Page.{PageDocument}
-use Rattle.profile.specs.Register.{Act, Count, Pick, Recount, Deed, Enrolled, Received, Performed, Entry}
-use Rattle.profile.specs.History.{History, after_entry, history, events, events_added}
+use Rattle.definitions.specs.declared.rules.Rules.{Rules}
+use Rattle.definitions.specs.Lists.{or_else}
+use Rattle.definitions.specs.Moments.{Moment}
+use Rattle.definitions.specs.Header.{Who}
+use Rattle.definitions.specs.Events.{Event, Enrolment, Advised, Ordered, Acknowledged, Counted, Picked, Recounted}
+use Rattle.definitions.specs.declared.refusals.Refusal.{Refusal}
+use Rattle.definitions.specs.Clerk.{performed}
+use Rattle.definitions.specs.Rows.{OutRow, acknowledges, said_of, state_text}
+use Rattle.definitions.specs.Page.{PageDocument}
+use Rattle.definitions.specs.Register.{Act, Count, Pick, Recount, Deed, Enrolled, Received, Performed, Entry}
+use Rattle.definitions.specs.History.{History, after_entry, history, events, events_added}
 use Rattle.stock.specs.Keyed.{put_document}
 use Rattle.stock.specs.Pages.{PageFacts, is_document, document_at}
 use Rattle.stock.specs.Puts.{put_change}
@@ -26,9 +26,9 @@ use Rattle.stock.specs.declared.steps.Change.TheVariants.{Stock, Advice, Order, 
 use Rattle.stock.proofs.Finds.{first_found-append, or_else_none, found_says}
 use Rattle.stock.proofs.KeyLemmas.{document_put, sent_found}
 use Rattle.rules.specs.Played.{no_history}
-use Rattle.sets_taken.specs.Proper.{AreProper}
+use Rattle.set_effects.specs.Proper.{AreProper}
 use Rattle.rules.proofs.Plays.{added_of}
-use Rattle.sets_taken.proofs.Added.{AreOfSets, IsOfSet, IsOfAct, of_received, of_performed}
+use Rattle.set_effects.proofs.Added.{AreOfSets, IsOfSet, IsOfAct, of_received, of_performed}
 use Rattle.rules.proofs.SentUnder.{numbered_le}
 
 -- Later entries' documents.

@@ -4,34 +4,34 @@ use Rattle.std.specs.Prelude.{fold, option_map, ◌==◌, nat_lt, bytes_eq, if�
 use Rattle.std.specs.List.{list_all}
 use Rattle.std.proofs.lemmas.Bool.{and_parts, lt-ltb, le-ltb, ltb-true}
 use Rattle.std.proofs.lemmas.List.{length-append, map-id, map-append}
-use Rattle.profile.specs.declared.rules.Rules.{Rules}
-use Rattle.profile.specs.Bytes.{comes_before}
-use Rattle.profile.specs.Moments.{Moment}
-use Rattle.profile.specs.Header.{Who, who_text}
-use Rattle.profile.specs.Events.{Event}
-use Rattle.profile.specs.Rows.{OutRow, state_text, said_of, act_kind, act_function, out_row, new_out_row, outgoing_on}
-use Rattle.profile.specs.Page.{PageDocument}
-use Rattle.profile.specs.Register.{Deed, Enrolled, Received, Performed, Entry, is_numbered, next_number}
-use Rattle.profile.specs.History.{events}
-use Rattle.profile.specs.Reply.{out}
-use Rattle.profile.specs.Tables.{Cell, Null, Number, Text, Blob, TableRow, entry_row, entries_on, entry_table, entry_rules_row, entry_rules_on, entry_rules_table, outgoing_cells}
-use Rattle.profile.specs.Schema.{key_in, put_row, entry_schema, entry_rules_schema, outgoing_schema}
-use Rattle.profile.specs.Changes.{with_state}
-use Rattle.profile.proofs.TextLaws.{same_text}
-use Rattle.profile.proofs.HistoryLaws.{history-numbered, history_snoc}
+use Rattle.definitions.specs.declared.rules.Rules.{Rules}
+use Rattle.definitions.specs.Bytes.{comes_before}
+use Rattle.definitions.specs.Moments.{Moment}
+use Rattle.definitions.specs.Header.{Who, who_text}
+use Rattle.definitions.specs.Events.{Event}
+use Rattle.definitions.specs.Rows.{OutRow, state_text, said_of, act_kind, act_function, out_row, new_out_row, outgoing_on}
+use Rattle.definitions.specs.Page.{PageDocument}
+use Rattle.definitions.specs.Register.{Deed, Enrolled, Received, Performed, Entry, is_numbered, next_number}
+use Rattle.definitions.specs.History.{events}
+use Rattle.definitions.specs.Reply.{out}
+use Rattle.definitions.specs.Tables.{Cell, Null, Number, Text, Blob, TableRow, entry_row, entries_on, entry_table, entry_rules_row, entry_rules_on, entry_rules_table, outgoing_cells}
+use Rattle.definitions.specs.Schema.{key_in, put_row, entry_schema, entry_rules_schema, outgoing_schema}
+use Rattle.definitions.specs.Changes.{with_state}
+use Rattle.definitions.proofs.TextLaws.{same_text}
+use Rattle.definitions.proofs.HistoryLaws.{history-numbered, history_snoc}
 use Rattle.stock.specs.Keyed.{put_by}
 use Rattle.stock.specs.Pages.{PageFacts, document_at}
 use Rattle.stock.specs.Puts.{put_change}
 use Rattle.stock.specs.Shows.{Shows, sent_under, document_of}
 use Rattle.stock.specs.declared.steps.Change.{Change}
 use Rattle.stock.specs.declared.steps.Change.TheVariants.{Stock, Advice, Order, Sent, Document}
-use Rattle.sets_taken.specs.Proper.{AreProper}
-use Rattle.sets_taken.proofs.KeyedLists.{both}
-use Rattle.sets_taken.proofs.Tables.{last_cell}
-use Rattle.sets_taken.proofs.Blocks.{prefixed, is_below, is_above, put_row_by, put_map, put_within}
-use Rattle.sets_taken.proofs.Portions.{rest_in}
-use Rattle.sets_taken.proofs.TableSteps.{Sides, IsBeside, framed, text_apart}
-use Rattle.sets_taken.proofs.TableChanges.{said_in}
+use Rattle.set_effects.specs.Proper.{AreProper}
+use Rattle.set_effects.proofs.KeyedLists.{both}
+use Rattle.set_effects.proofs.Tables.{last_cell}
+use Rattle.set_effects.proofs.Blocks.{prefixed, is_below, is_above, put_row_by, put_map, put_within}
+use Rattle.set_effects.proofs.Portions.{rest_in}
+use Rattle.set_effects.proofs.TableSteps.{Sides, IsBeside, framed, text_apart}
+use Rattle.set_effects.proofs.TableChanges.{said_in}
 use Rattle.rules.proofs.Registers.{Along1, IsDone, along_at}
 use Rattle.rules.proofs.SentUnder.{sent_of, sent_at}
 use Rattle.rules.proofs.SaidOf.{said_by, said_stays, said_above, decided_row, all_decided, decided_state, untouched, untouched_new}

@@ -4,23 +4,23 @@ use Rattle.std.proofs.Common.{◌≡◌, ℕ, ◌+◌, ◌<◌, ◌≤◌, Bool,
 use Rattle.std.specs.Prelude.{Result, if◌then◌else◌, fold, ◌==◌}
 use Rattle.std.proofs.lemmas.Bool.{ne_eqb, eq-eqb}
 use Rattle.std.proofs.lemmas.List.Sums.{fold-append}
-use Rattle.profile.specs.declared.rules.Rules.{Rules}
-use Rattle.profile.specs.Header.{Who}
-use Rattle.profile.specs.Moments.{Moment}
-use Rattle.profile.specs.Lists.{or_else}
-use Rattle.profile.specs.Events.{Event, Enrolment, Advised, Ordered, Acknowledged, Counted, Picked, Recounted}
-use Rattle.profile.specs.declared.refusals.Refusal.{Refusal}
-use Rattle.profile.specs.Clerk.{performed}
-use Rattle.profile.specs.Rows.{act_function}
-use Rattle.profile.specs.Register.{Act, Count, Pick, Recount, Deed, Enrolled, Received, Performed, Entry, is_numbered, own, next_number}
-use Rattle.profile.specs.History.{History, after_entry, history, events, events_added}
-use Rattle.profile.specs.Accepted.{IsLegal}
-use Rattle.profile.proofs.HistoryLaws.{history-numbered}
+use Rattle.definitions.specs.declared.rules.Rules.{Rules}
+use Rattle.definitions.specs.Header.{Who}
+use Rattle.definitions.specs.Moments.{Moment}
+use Rattle.definitions.specs.Lists.{or_else}
+use Rattle.definitions.specs.Events.{Event, Enrolment, Advised, Ordered, Acknowledged, Counted, Picked, Recounted}
+use Rattle.definitions.specs.declared.refusals.Refusal.{Refusal}
+use Rattle.definitions.specs.Clerk.{performed}
+use Rattle.definitions.specs.Rows.{act_function}
+use Rattle.definitions.specs.Register.{Act, Count, Pick, Recount, Deed, Enrolled, Received, Performed, Entry, is_numbered, own, next_number}
+use Rattle.definitions.specs.History.{History, after_entry, history, events, events_added}
+use Rattle.definitions.specs.Accepted.{IsLegal}
+use Rattle.definitions.proofs.HistoryLaws.{history-numbered}
 use Rattle.stock.specs.Shows.{sent_if, sent_under}
 use Rattle.stock.proofs.Finds.{first_found-append, or_else_none}
 use Rattle.rules.specs.Played.{no_history}
 use Rattle.rules.proofs.Plays.{added_of}
-use Rattle.sets_taken.proofs.Added.{AreOfSets, IsOfSet, of_received, of_performed}
+use Rattle.set_effects.proofs.Added.{AreOfSets, IsOfSet, of_received, of_performed}
 use Rattle.rules.proofs.Registers.{Along1, IsDone, done_own, along_at}
 
 -- what a deed sends

@@ -6,31 +6,31 @@ use Rattle.std.specs.Cmp.Derive.{both_true}
 use Rattle.std.specs.List.{list_all, enumerate_from}
 use Rattle.std.proofs.lemmas.List.{length-map}
 use Rattle.std.proofs.lemmas.List.Folds.{list_all-append, list_all-map}
-use Rattle.profile.specs.declared.rules.Rules.{Rules}
-use Rattle.profile.specs.declared.rules.Rules.TheVariants.{One, Two}
-use Rattle.profile.specs.Rules.{may_follow}
-use Rattle.profile.specs.Bytes.{Delims, value}
-use Rattle.profile.specs.Limits.{most_lines, most_quantity}
-use Rattle.profile.specs.Cut.{Segment, element, has_id, places_of}
-use Rattle.profile.specs.Elements.{quantity_digits}
-use Rattle.profile.specs.Words.{kind_words, words_940, words_943}
-use Rattle.profile.specs.declared.set_kind.SetKind.{SetKind}
-use Rattle.profile.specs.declared.set_kind.SetKind.TheVariants.{ShippingOrder, ShipmentAdvice, FunctionalAcknowledgment}
-use Rattle.profile.specs.Faults.{SetFault, set_fault, fault_from}
-use Rattle.profile.specs.Means.{AdviceLine, OrderLine, Order, segment_at, advice_line, advice_of, order_line, order_of}
-use Rattle.profile.specs.Events.{Event, Enrolment, Advised, Ordered, Acknowledged, Counted, Picked, Recounted, advice_fault, order_fault}
-use Rattle.profile.specs.Movements.{free}
-use Rattle.profile.specs.Allotment.{shares_after, line_shares, order_shares, lots_for}
-use Rattle.profile.specs.History.{unless, traded, judged}
-use Rattle.profile.proofs.FaultsLaws.{set_fault-from}
-use Rattle.profile.proofs.TextLaws.{both_parts}
+use Rattle.definitions.specs.declared.rules.Rules.{Rules}
+use Rattle.definitions.specs.declared.rules.Rules.TheVariants.{One, Two}
+use Rattle.definitions.specs.Rules.{may_follow}
+use Rattle.definitions.specs.Bytes.{Delims, value}
+use Rattle.definitions.specs.Limits.{most_lines, most_quantity}
+use Rattle.definitions.specs.Cut.{Segment, element, has_id, places_of}
+use Rattle.definitions.specs.Elements.{quantity_digits}
+use Rattle.definitions.specs.Words.{kind_words, words_940, words_943}
+use Rattle.definitions.specs.declared.set_kind.SetKind.{SetKind}
+use Rattle.definitions.specs.declared.set_kind.SetKind.TheVariants.{ShippingOrder, ShipmentAdvice, FunctionalAcknowledgment}
+use Rattle.definitions.specs.Faults.{SetFault, set_fault, fault_from}
+use Rattle.definitions.specs.Means.{AdviceLine, OrderLine, Order, segment_at, advice_line, advice_of, order_line, order_of}
+use Rattle.definitions.specs.Events.{Event, Enrolment, Advised, Ordered, Acknowledged, Counted, Picked, Recounted, advice_fault, order_fault}
+use Rattle.definitions.specs.Movements.{free}
+use Rattle.definitions.specs.Allotment.{shares_after, line_shares, order_shares, lots_for}
+use Rattle.definitions.specs.History.{unless, traded, judged}
+use Rattle.definitions.proofs.FaultsLaws.{set_fault-from}
+use Rattle.definitions.proofs.TextLaws.{both_parts}
 use Rattle.sets_in.specs.Amounts.{IsAmount, HaveAmounts}
 use Rattle.sets_in.specs.Places.{places_from}
 use Rattle.sets_in.proofs.Values.{amount_bound}
 use Rattle.sets_in.proofs.Sound.{goods_amounts, ordered_amounts, amount_at}
 use Rattle.sets_in.proofs.Most.{few_goods}
 use Rattle.rules.specs.Fitting.{is_fitting_line}
-use Rattle.sets_taken.proofs.Judges.{judged_sound, judged_faulty}
+use Rattle.set_effects.proofs.Judges.{judged_sound, judged_faulty}
 
 abbrev pub is_small : Rules → ℕ → Bool
 is_small r n = nat_le n (most_quantity r)

@@ -3,24 +3,24 @@ use Rattle.std.proofs.Common.{◌≡◌, ℕ, ◌+◌, Bool, true, false, List, 
 use Rattle.std.specs.Prelude.{Result, is_none, fold, if◌then◌else◌, option_to_list}
 use Rattle.std.specs.Cmp.Derive.{both_true}
 use Rattle.std.specs.List.{list_all, cons_option}
-use Rattle.profile.specs.declared.rules.Rules.{Rules}
-use Rattle.profile.specs.Rules.{may_follow}
-use Rattle.profile.specs.Bytes.{Delims}
-use Rattle.profile.specs.Cut.{cut}
-use Rattle.profile.specs.Header.{delims_of}
-use Rattle.profile.specs.declared.set_kind.SetKind.{SetKind}
-use Rattle.profile.specs.Faults.{SetFault}
-use Rattle.profile.specs.Structure.{Set, Group, kind_of, group_fault, examined, groups_of}
-use Rattle.profile.specs.Events.{Event}
-use Rattle.profile.specs.declared.refusals.Refusal.{Refusal}
-use Rattle.profile.specs.Clerk.{performed}
-use Rattle.profile.specs.Register.{Act, Count, Pick, Recount, Deed, Enrolled, Received, Performed, Entry}
-use Rattle.profile.specs.History.{Rejection, event_of, judged, by_segment, outcome_of, verdicts_on, telling_of, events_told, tellings_on, events_added, History, after_entry, events}
-use Rattle.profile.proofs.TextLaws.{both_parts}
-use Rattle.sets_taken.specs.Judging.{passed, told_events}
+use Rattle.definitions.specs.declared.rules.Rules.{Rules}
+use Rattle.definitions.specs.Rules.{may_follow}
+use Rattle.definitions.specs.Bytes.{Delims}
+use Rattle.definitions.specs.Cut.{cut}
+use Rattle.definitions.specs.Header.{delims_of}
+use Rattle.definitions.specs.declared.set_kind.SetKind.{SetKind}
+use Rattle.definitions.specs.Faults.{SetFault}
+use Rattle.definitions.specs.Structure.{Set, Group, kind_of, group_fault, examined, groups_of}
+use Rattle.definitions.specs.Events.{Event}
+use Rattle.definitions.specs.declared.refusals.Refusal.{Refusal}
+use Rattle.definitions.specs.Clerk.{performed}
+use Rattle.definitions.specs.Register.{Act, Count, Pick, Recount, Deed, Enrolled, Received, Performed, Entry}
+use Rattle.definitions.specs.History.{Rejection, event_of, judged, by_segment, outcome_of, verdicts_on, telling_of, events_told, tellings_on, events_added, History, after_entry, events}
+use Rattle.definitions.proofs.TextLaws.{both_parts}
+use Rattle.set_effects.specs.Judging.{passed, told_events}
 use Rattle.rules.specs.Played.{no_history}
 use Rattle.rules.proofs.Plays.{added_of}
-use Rattle.sets_taken.proofs.Added.{of_performed}
+use Rattle.set_effects.proofs.Added.{of_performed}
 use Rattle.rules.proofs.Small.{is_small_event, all_so, all_two, event_later, IsSmall, judged_small}
 
 abbrev pub AreSmall : Rules → List Event → Type 0

@@ -1,21 +1,21 @@
 -- A whole page is a part of itself that has all that a command can name.
 use Rattle.std.proofs.Common.{ℕ, List, [], ◌∷◌, Option, Some, None, refl}
-use Rattle.profile.specs.Bytes.{Delims}
-use Rattle.profile.specs.Cut.{Segment}
-use Rattle.profile.specs.declared.set_kind.SetKind.{SetKind}
-use Rattle.profile.specs.declared.set_kind.SetKind.TheVariants.{ShipmentAdvice, ShippingOrder, FunctionalAcknowledgment}
-use Rattle.profile.specs.Structure.{Set, Group, kind_of, examined}
-use Rattle.profile.specs.History.{History}
-use Rattle.profile.specs.Means.{advised, advice_of, order_of}
-use Rattle.profile.specs.Register.{Act, Count, Pick, Recount, Command}
+use Rattle.definitions.specs.Bytes.{Delims}
+use Rattle.definitions.specs.Cut.{Segment}
+use Rattle.definitions.specs.declared.set_kind.SetKind.{SetKind}
+use Rattle.definitions.specs.declared.set_kind.SetKind.TheVariants.{ShipmentAdvice, ShippingOrder, FunctionalAcknowledgment}
+use Rattle.definitions.specs.Structure.{Set, Group, kind_of, examined}
+use Rattle.definitions.specs.History.{History}
+use Rattle.definitions.specs.Means.{advised, advice_of, order_of}
+use Rattle.definitions.specs.Register.{Act, Count, Pick, Recount, Command}
 use Rattle.stock.specs.Pages.{PageFacts, IsSound}
 use Rattle.stock.specs.Parts.{all_named}
 use Rattle.stock.proofs.PartLemmas.{part_of_self, all_items, all_ordered}
 use Rattle.rules.specs.Decided.{IsHeldPart, IsPageOf, StandsFor}
-use Rattle.sets_taken.specs.SetNames.{NamesSet, NamesJudged, NamesUnder, NamesSets, NamesGroups}
+use Rattle.set_effects.specs.SetNames.{NamesSet, NamesJudged, NamesUnder, NamesSets, NamesGroups}
 use Rattle.rules.specs.Needs.{NamesAct}
 use Rattle.rules.specs.Naming.{named_of}
-use Rattle.profile.specs.Need.{Need, need_of}
+use Rattle.definitions.specs.Need.{Need, need_of}
 use Rattle.rules.proofs.NeedNames.{needed}
 
 all_set : (kind : SetKind) (ss : List Segment) → NamesSet all_named kind ss

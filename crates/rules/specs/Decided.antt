@@ -1,15 +1,15 @@
 -- What a page and what is known stand for, and the decision on a command.
 use Rattle.std.specs.Prelude.{ℕ, ◌≡◌, ◌+◌, ◌++◌, ◌∷◌, List, [], Option, Some, None}
-use Rattle.profile.specs.declared.rules.Rules.{Rules}
-use Rattle.profile.specs.Moments.{Moment}
-use Rattle.profile.specs.Register as meant
-use Rattle.profile.specs.History.{History, after_entry}
-use Rattle.profile.specs.Need.{Need}
-use Rattle.profile.specs.Decision as known
-use Rattle.profile.specs.Accepted.{IsLegal, entry_of, depositor_of}
-use Rattle.profile.specs.Changes as tables
-use Rattle.profile.specs.Header.{Who}
-use Rattle.sets_taken.specs.Tabled.{table_changes}
+use Rattle.definitions.specs.declared.rules.Rules.{Rules}
+use Rattle.definitions.specs.Moments.{Moment}
+use Rattle.definitions.specs.Register as meant
+use Rattle.definitions.specs.History.{History, after_entry}
+use Rattle.definitions.specs.Need.{Need}
+use Rattle.definitions.specs.Decision as known
+use Rattle.definitions.specs.Accepted.{IsLegal, entry_of, depositor_of}
+use Rattle.definitions.specs.Changes as tables
+use Rattle.definitions.specs.Header.{Who}
+use Rattle.set_effects.specs.Tabled.{table_changes}
 use Rattle.stock.specs.Pages.{PageFacts, AreSorted, IsSound, next_entry}
 use Rattle.stock.specs.Parts.{IsPart}
 use Rattle.stock.specs.Puts.{put}
@@ -17,11 +17,11 @@ use Rattle.stock.specs.declared.steps.Change.{Change}
 use Rattle.stock.specs.Shows.{Shows}
 use Rattle.rules.specs.Naming.{named_of}
 use Rattle.rules.specs.Needs.{HasNeeded}
-use Rattle.sets_taken.specs.Proper.{AreProper}
-use Rattle.repeats.specs.Replies.{IsEntry}
-use Rattle.repeats.specs.Written.{Recalled, written_as, unnumbered}
-use Rattle.repeats.specs.declared.decisions.Decision.{Decision}
-use Rattle.repeats.specs.declared.decisions.Decision.TheVariants.{Stored, Refused, Accepted}
+use Rattle.set_effects.specs.Proper.{AreProper}
+use Rattle.entries.specs.Replies.{IsEntry}
+use Rattle.entries.specs.Written.{Recalled, written_as, unnumbered}
+use Rattle.entries.specs.declared.decisions.Decision.{Decision}
+use Rattle.entries.specs.declared.decisions.Decision.TheVariants.{Stored, Refused, Accepted}
 
 -- a page of this history
 pub record IsPageOf (p : PageFacts) (h : History) : Type 0 where

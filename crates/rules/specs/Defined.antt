@@ -1,6 +1,6 @@
 -- When a page is the one that the definitions give.
 use Rattle.std.specs.Prelude.{◌≡◌}
-use Rattle.profile.specs.Page.{Page}
+use Rattle.definitions.specs.Page.{Page}
 use Rattle.stock.specs.Pages.{PageFacts}
 
 pub record IsDefined (p : PageFacts) (page : Page) : Type 0 where

@@ -1,12 +1,12 @@
 -- The texts of documents, from what a page tells.
 use Rattle.std.specs.Prelude.{ℕ, List, ◌++◌, map, filter, bytes_eq, codes}
-use Rattle.profile.specs.Means.{Line}
-use Rattle.profile.specs.Events.{pair_before, quantity_of}
-use Rattle.profile.specs.Lists.{in_order}
-use Rattle.profile.specs.Page.{PageAdvice, PageLine, PageOrder}
-use Rattle.profile.specs.Texts.{total_of, document_text}
+use Rattle.definitions.specs.Means.{Line}
+use Rattle.definitions.specs.Events.{pair_before, quantity_of}
+use Rattle.definitions.specs.Lists.{in_order}
+use Rattle.definitions.specs.Page.{PageAdvice, PageLine, PageOrder}
+use Rattle.definitions.specs.Texts.{total_of, document_text}
 use Rattle.sets_out.specs.Documents.{receipt_body, shipment_body, adjustment_body, PickedLot, ShippedLine, AdjustedLine}
-use Rattle.profile.specs.Movements.{OnHand}
+use Rattle.definitions.specs.Movements.{OnHand}
 use Rattle.stock.specs.OfPairs.{of_pair, amount}
 use Rattle.stock.specs.Pages.{PageFacts}
 use Rattle.sets_out.specs.declared.envelopes.Envelope.{Envelope}

@@ -2,13 +2,13 @@
 -- most, quantities within their limit, and numbers of entries.
 use Rattle.std.specs.Prelude.{◌≡◌, ◌≤◌, ◌+◌, ◌^◌, ℕ, Bool, true, ◌&&◌, length, nat_le, nat_lt}
 use Rattle.std.specs.List.{list_all}
-use Rattle.profile.specs.declared.rules.Rules.{Rules}
-use Rattle.profile.specs.declared.widths.TheConstants.{QUANTITY_COLUMN}
-use Rattle.profile.specs.Limits.{most_lines, most_quantity, most_entries}
-use Rattle.profile.specs.Means.{Line}
-use Rattle.profile.specs.Events.{Reserved}
-use Rattle.profile.specs.Rows.{LotRow}
-use Rattle.profile.specs.Page.{Page, PageAdvice, PageLine, PageOrder}
+use Rattle.definitions.specs.declared.rules.Rules.{Rules}
+use Rattle.definitions.specs.declared.widths.TheConstants.{QUANTITY_COLUMN}
+use Rattle.definitions.specs.Limits.{most_lines, most_quantity, most_entries}
+use Rattle.definitions.specs.Means.{Line}
+use Rattle.definitions.specs.Events.{Reserved}
+use Rattle.definitions.specs.Rows.{LotRow}
+use Rattle.definitions.specs.Page.{Page, PageAdvice, PageLine, PageOrder}
 
 abbrev pub is_fitting_line : Rules → Line → Bool
 is_fitting_line r l = nat_le l.quantity (most_quantity r)

@@ -1,9 +1,9 @@
 -- The command that an entry is of, by which it can be given again.
-use Rattle.profile.specs.declared.rules.Rules.{Rules}
-use Rattle.profile.specs.Moments.{Moment}
-use Rattle.profile.specs.Header.{Who}
-use Rattle.profile.specs.Register.{Command, Interchange, Enrol, Clerk, Deed, Enrolled, Received, Performed, Entry}
-use Rattle.profile.specs.Accepted.{Ruled}
+use Rattle.definitions.specs.declared.rules.Rules.{Rules}
+use Rattle.definitions.specs.Moments.{Moment}
+use Rattle.definitions.specs.Header.{Who}
+use Rattle.definitions.specs.Register.{Command, Interchange, Enrol, Clerk, Deed, Enrolled, Received, Performed, Entry}
+use Rattle.definitions.specs.Accepted.{Ruled}
 use Rattle.rules.specs.ReadActs.{read_act}
 use Rattle.rules.specs.declared.given.Deed.{Deed as Read}
 use Rattle.rules.specs.declared.given.Deed.TheVariants as read

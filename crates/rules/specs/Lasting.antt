@@ -2,13 +2,13 @@
 -- and every other change.
 use Rattle.std.specs.Prelude.{ℕ, ◌≡◌, ◌≤◌, Bool, false, List, [], ◌∷◌, if◌then◌else◌, find, count_by, length, slice_index_or, None}
 use Rattle.std.specs.List.{list_any}
-use Rattle.profile.specs.Rows.{LotRow}
+use Rattle.definitions.specs.Rows.{LotRow}
 use Rattle.stock.specs.Moved.{IsPlace}
 use Rattle.stock.specs.OfPairs.{is_row}
 use Rattle.stock.specs.declared.steps.Change.{Change}
 use Rattle.stock.specs.declared.steps.Change.TheVariants.{Stock}
-use Rattle.repeats.specs.declared.decisions.Decision.{Decision}
-use Rattle.repeats.specs.declared.decisions.Decision.TheVariants.{Stored, Refused, Accepted}
+use Rattle.entries.specs.declared.decisions.Decision.{Decision}
+use Rattle.entries.specs.declared.decisions.Decision.TheVariants.{Stored, Refused, Accepted}
 
 -- whether a change puts in the row of this pair
 abbrev pub is_of : List ℕ → List ℕ → Change → Bool

@@ -1,6 +1,6 @@
 -- The page of a depositor of a legal register.
 use Rattle.std.specs.Prelude.{◌≡◌}
-use Rattle.profile.specs.History.{History}
+use Rattle.definitions.specs.History.{History}
 use Rattle.stock.specs.Pages.{PageFacts, IsSound}
 use Rattle.rules.specs.Decided.{IsPageOf}
 

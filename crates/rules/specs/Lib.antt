@@ -11,15 +11,15 @@ pub mod Given
 pub mod Lasting
 pub mod Documents
 -- of commands, entries and repeats
-pub use Rattle.repeats.specs.Written
-pub use Rattle.repeats.specs.Asked
-pub use Rattle.repeats.specs.Kinds
-pub use Rattle.repeats.specs.Replies
-pub use Rattle.repeats.specs.declared.commands.Command
-pub use Rattle.repeats.specs.declared.decisions.Decision
-pub use Rattle.repeats.specs.declared.kinds.OutKind
+pub use Rattle.entries.specs.Written
+pub use Rattle.entries.specs.Asked
+pub use Rattle.entries.specs.Kinds
+pub use Rattle.entries.specs.Replies
+pub use Rattle.entries.specs.declared.commands.Command
+pub use Rattle.entries.specs.declared.decisions.Decision
+pub use Rattle.entries.specs.declared.kinds.OutKind
 -- of sets
-pub use Rattle.sets_taken.specs.Tabled
+pub use Rattle.set_effects.specs.Tabled
 -- of pages
 pub use Rattle.stock.specs.Function
 pub use Rattle.stock.specs.Functions

@@ -1,16 +1,16 @@
 -- The act that a text looks like: what is written of it again may be another text.
 use Rattle.std.specs.Prelude.{ℕ, not, List, [], ◌∷◌, codes, bytes_eq, filter_map, Option, Some, None, Result, Ok, Err, option_and_then}
-use Rattle.profile.specs.declared.rules.Rules.{Rules}
-use Rattle.profile.specs.Limits.{most_number}
-use Rattle.profile.specs.Bytes.{is_identifier}
-use Rattle.profile.specs.Lists.{first_of}
-use Rattle.profile.specs.Means.{Line}
-use Rattle.profile.specs.Register.{Act}
-use Rattle.profile.specs.declared.refusals.Refusal.{Refusal}
-use Rattle.profile.specs.Clerk.{RawLine, raw_line, sheet_of}
-use Rattle.profile.specs.Readings.{parts_at}
-use Rattle.profile.specs.declared.sheet_kind.SheetKind.{SheetKind}
-use Rattle.profile.specs.declared.sheet_kind.SheetKind.TheVariants.{Count, Pick, Recount}
+use Rattle.definitions.specs.declared.rules.Rules.{Rules}
+use Rattle.definitions.specs.Limits.{most_number}
+use Rattle.definitions.specs.Bytes.{is_identifier}
+use Rattle.definitions.specs.Lists.{first_of}
+use Rattle.definitions.specs.Means.{Line}
+use Rattle.definitions.specs.Register.{Act}
+use Rattle.definitions.specs.declared.refusals.Refusal.{Refusal}
+use Rattle.definitions.specs.Clerk.{RawLine, raw_line, sheet_of}
+use Rattle.definitions.specs.Readings.{parts_at}
+use Rattle.definitions.specs.declared.sheet_kind.SheetKind.{SheetKind}
+use Rattle.definitions.specs.declared.sheet_kind.SheetKind.TheVariants.{Count, Pick, Recount}
 use Rattle.rules.specs.ReadActs.{by_kind}
 
 -- what was done, and to what

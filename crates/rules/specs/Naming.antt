@@ -1,7 +1,7 @@
 -- What a need names of a page.
-use Rattle.profile.specs.Bytes.{is_one_of}
-use Rattle.profile.specs.Page.{Page}
-use Rattle.profile.specs.Need.{Need, items_in, is_number_of}
+use Rattle.definitions.specs.Bytes.{is_one_of}
+use Rattle.definitions.specs.Page.{Page}
+use Rattle.definitions.specs.Need.{Need, items_in, is_number_of}
 use Rattle.stock.specs.Pages.{PageFacts}
 use Rattle.stock.specs.Parts.{Named}
 

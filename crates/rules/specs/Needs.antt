@@ -1,13 +1,13 @@
 -- What is named of a command.
 use Rattle.std.specs.Prelude.{◌≡◌, true, false, None}
-use Rattle.profile.specs.Cut.{cut}
-use Rattle.profile.specs.Structure.{groups_of}
-use Rattle.profile.specs.Header.{delims_of, is_unreadable}
-use Rattle.profile.specs.Halt.{structure_note}
-use Rattle.profile.specs.Register.{Act, Count, Pick, Recount, Command, Interchange, Enrol, Clerk}
+use Rattle.definitions.specs.Cut.{cut}
+use Rattle.definitions.specs.Structure.{groups_of}
+use Rattle.definitions.specs.Header.{delims_of, is_unreadable}
+use Rattle.definitions.specs.Halt.{structure_note}
+use Rattle.definitions.specs.Register.{Act, Count, Pick, Recount, Command, Interchange, Enrol, Clerk}
 use Rattle.stock.specs.Pages.{PageFacts}
 use Rattle.stock.specs.Parts.{Named, IsPart, NamesCount, NamesPick, are_items}
-use Rattle.sets_taken.specs.SetNames.{NamesGroups}
+use Rattle.set_effects.specs.SetNames.{NamesGroups}
 
 -- what an act is about is named, and with the advice or order that it names the items of that
 abbrev pub NamesAct : Named → PageFacts → Act → Type 0

@@ -1,12 +1,12 @@
 -- What an entry of the register comes to, over the page of those before it.
 use Rattle.std.specs.Prelude.{◌≡◌, ◌≤◌, ◌==◌, ℕ, ◌+◌, ◌++◌, List, [], length, not, ◌&&◌, is_none, Bool, true, false, if◌then◌else◌, Option, Some, None}
-use Rattle.profile.specs.Limits.{most_entries}
-use Rattle.profile.specs.Header.{Who, is_unreadable}
-use Rattle.profile.specs.Halt.{structure_note}
-use Rattle.profile.specs.Register.{Deed, Received, Entry, is_numbered}
-use Rattle.profile.specs.History.{History, events_added, after_entry, history}
-use Rattle.profile.specs.Readings.{is_entry}
-use Rattle.profile.specs.Decision.{out_by}
+use Rattle.definitions.specs.Limits.{most_entries}
+use Rattle.definitions.specs.Header.{Who, is_unreadable}
+use Rattle.definitions.specs.Halt.{structure_note}
+use Rattle.definitions.specs.Register.{Deed, Received, Entry, is_numbered}
+use Rattle.definitions.specs.History.{History, events_added, after_entry, history}
+use Rattle.definitions.specs.Readings.{is_entry}
+use Rattle.definitions.specs.Decision.{out_by}
 use Rattle.stock.specs.Pages.{PageFacts}
 use Rattle.stock.specs.Shows.{Shows}
 use Rattle.rules.specs.Decided.{IsPageOf}

@@ -1,9 +1,9 @@
 -- The act that was read of a text.
 use Rattle.std.specs.Prelude.{ℕ, List}
-use Rattle.profile.specs.Means.{Line}
-use Rattle.profile.specs.Register as meant
-use Rattle.profile.specs.declared.sheet_kind.SheetKind.{SheetKind}
-use Rattle.profile.specs.declared.sheet_kind.SheetKind.TheVariants as kinds
+use Rattle.definitions.specs.Means.{Line}
+use Rattle.definitions.specs.Register as meant
+use Rattle.definitions.specs.declared.sheet_kind.SheetKind.{SheetKind}
+use Rattle.definitions.specs.declared.sheet_kind.SheetKind.TheVariants as kinds
 use Rattle.rules.specs.declared.readings.ReadAct.{ReadAct}
 
 -- by its kind, the number of an advice or order, and its sheet

@@ -1,19 +1,19 @@
 //! What each command comes to.
 ghost use Rattle.std.specs.Prelude.{List, Option, IfOk, option_copied};
-ghost use Rattle.profile.specs.Accepted.{own_of};
-ghost use Rattle.profile.specs.Decision as meant;
-ghost use Rattle.profile.specs.Decision.{standing};
-ghost use Rattle.profile.specs.History.{History};
-ghost use Rattle.repeats.specs.Asked.{act_of, asked};
-ghost use Rattle.profile.specs.Header.{Who as Partner};
-ghost use Rattle.profile.specs.Register as register;
-ghost use Rattle.repeats.specs.Replies.{IsReply};
+ghost use Rattle.definitions.specs.Accepted.{own_of};
+ghost use Rattle.definitions.specs.Decision as meant;
+ghost use Rattle.definitions.specs.Decision.{standing};
+ghost use Rattle.definitions.specs.History.{History};
+ghost use Rattle.entries.specs.Asked.{act_of, asked};
+ghost use Rattle.definitions.specs.Header.{Who as Partner};
+ghost use Rattle.definitions.specs.Register as register;
+ghost use Rattle.entries.specs.Replies.{IsReply};
 ghost use Rattle.rules.specs.Decided.{MakesEntry, IsAtRest, IsGiven, StandsFor, LeadsFrom, LeadsInTables, entries_of};
 
 use crate::acts::clerk;
 use crate::interchanges::interchange;
-use profile::{Refusal, Rules};
-use repeats::{Act, Command, Decision, Known, Warehouse, enrolment};
+use definitions::{Refusal, Rules};
+use entries::{Act, Command, Decision, Known, Warehouse, enrolment};
 use segments::{Moment, Who};
 use sets_out::Envelope;
 use std::alloc::{AllocError, Global};

@@ -1,15 +1,15 @@
 //! The command that an entry of the register is of, by which it can be given again.
 ghost use Rattle.std.specs.Prelude.{◌≡◌, ℕ, Option, Some, true, IfOk, IsTrue};
-ghost use Rattle.profile.specs.Accepted.{is_command};
-ghost use Rattle.profile.specs.Readings.{is_deed, is_entry};
-ghost use Rattle.profile.specs.Register as register;
-ghost use Rattle.repeats.specs.Asked.{asked};
+ghost use Rattle.definitions.specs.Accepted.{is_command};
+ghost use Rattle.definitions.specs.Readings.{is_deed, is_entry};
+ghost use Rattle.definitions.specs.Register as register;
+ghost use Rattle.entries.specs.Asked.{asked};
 ghost use Rattle.rules.specs.Given.{RuledCommand, given_as, read_deed, ruled_by};
-ghost use Rattle.repeats.specs.Written.{written_as};
+ghost use Rattle.entries.specs.Written.{written_as};
 
 use crate::readings::{ReadAct, read};
-use profile::{MOST_TICKET, Rules};
-use repeats::{Command, Entry};
+use definitions::{MOST_TICKET, Rules};
+use entries::{Command, Entry};
 use segments::{Ident, Who};
 use std::alloc::{AllocError, Global};
 use std::marker::Model;

@@ -1,29 +1,29 @@
 //! What an interchange comes to.
 ghost use Rattle.std.specs.Prelude.{◌≡◌, ◌+◌, ℕ, false, List, None, Option, IfOk, option_copied};
-ghost use Rattle.profile.specs.declared.rules.Rules.{Rules};
-ghost use Rattle.profile.specs.Header.{is_unreadable, sender};
-ghost use Rattle.profile.specs.Halt.{structure_note};
-ghost use Rattle.profile.specs.History.{History};
-ghost use Rattle.profile.specs.Register as register;
-ghost use Rattle.profile.specs.Reply as replies;
-ghost use Rattle.profile.specs.Decision as recalled;
-ghost use Rattle.profile.specs.Cut.{cut};
-ghost use Rattle.profile.specs.Header.{delims_of};
-ghost use Rattle.profile.specs.Structure.{groups_of};
+ghost use Rattle.definitions.specs.declared.rules.Rules.{Rules};
+ghost use Rattle.definitions.specs.Header.{is_unreadable, sender};
+ghost use Rattle.definitions.specs.Halt.{structure_note};
+ghost use Rattle.definitions.specs.History.{History};
+ghost use Rattle.definitions.specs.Register as register;
+ghost use Rattle.definitions.specs.Reply as replies;
+ghost use Rattle.definitions.specs.Decision as recalled;
+ghost use Rattle.definitions.specs.Cut.{cut};
+ghost use Rattle.definitions.specs.Header.{delims_of};
+ghost use Rattle.definitions.specs.Structure.{groups_of};
 ghost use Rattle.envelope.specs.Conditions.{IsTold};
 ghost use Rattle.stock.specs.Pages.{PageFacts};
 ghost use Rattle.rules.specs.Needs.{HasNeeded};
 ghost use Rattle.rules.specs.Lasting.{PutsOnce};
 ghost use Rattle.rules.specs.Decided.{MakesEntry, IsPageOf, IsGiven, IsAtRest, LeadsOn, LeadsFrom, entries_of};
-ghost use Rattle.repeats.specs.Replies.{IsNoEntry, IsReply};
+ghost use Rattle.entries.specs.Replies.{IsNoEntry, IsReply};
 
 use crate::lasting::lasting;
+use definitions::{MOST_ENTRIES, Refusal, Rules};
+use entries::{Decision, Known, Warehouse, answer, interchange_again, interchange_entry, noted};
 use envelope::{Halt, Interchange, Isa, header_note, isa, structure};
-use profile::{MOST_ENTRIES, Refusal, Rules};
-use repeats::{Decision, Known, Warehouse, answer, interchange_again, interchange_entry, noted};
 use segments::{Moment, Who};
+use set_effects::take_groups;
 use sets_out::Envelope;
-use sets_taken::take_groups;
 use std::alloc::{AllocError, Global};
 use stock::Page;
 

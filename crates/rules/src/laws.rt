@@ -1,18 +1,18 @@
 //! Laws of replies and of registers: nothing runs, each contract is a law.
 ghost use Rattle.std.specs.Prelude.{◌≡◌, ◌<◌, ◌^◌, ◌++◌, ◌∷◌, [], ℕ, List, Some, None, true, map};
-ghost use Rattle.profile.specs.declared.rules.Rules.{Rules};
-ghost use Rattle.profile.specs.Accepted.{IsLegal, after, depositor_of, is_command, left_by, own_of, reply_to};
-ghost use Rattle.profile.specs.Header.{Who, isa};
-ghost use Rattle.profile.specs.Moments.{Moment};
-ghost use Rattle.profile.specs.Register.{Act, Clerk, Command, Entry, Interchange, Known, Performed, Received, interchange_mark, known, next_number, own, ticket_mark};
-ghost use Rattle.profile.specs.History.{History, events, history};
-ghost use Rattle.profile.specs.Movements.{Column, IsCovered, IsExpectedWithin, balance, most_expected};
-ghost use Rattle.profile.specs.declared.widths.TheConstants.{AMOUNT_COLUMN};
-ghost use Rattle.profile.specs.Page.{page_of};
-ghost use Rattle.profile.specs.Reply.{Stored, stored};
-ghost use Rattle.profile.specs.Decision.{standing};
-ghost use Rattle.profile.specs.Events.{Event, Reserved, order_under};
-ghost use Rattle.profile.specs.Rows.{act_function, running_rows};
+ghost use Rattle.definitions.specs.declared.rules.Rules.{Rules};
+ghost use Rattle.definitions.specs.Accepted.{IsLegal, after, depositor_of, is_command, left_by, own_of, reply_to};
+ghost use Rattle.definitions.specs.Header.{Who, isa};
+ghost use Rattle.definitions.specs.Moments.{Moment};
+ghost use Rattle.definitions.specs.Register.{Act, Clerk, Command, Entry, Interchange, Known, Performed, Received, interchange_mark, known, next_number, own, ticket_mark};
+ghost use Rattle.definitions.specs.History.{History, events, history};
+ghost use Rattle.definitions.specs.Movements.{Column, IsCovered, IsExpectedWithin, balance, most_expected};
+ghost use Rattle.definitions.specs.declared.widths.TheConstants.{AMOUNT_COLUMN};
+ghost use Rattle.definitions.specs.Page.{page_of};
+ghost use Rattle.definitions.specs.Reply.{Stored, stored};
+ghost use Rattle.definitions.specs.Decision.{standing};
+ghost use Rattle.definitions.specs.Events.{Event, Reserved, order_under};
+ghost use Rattle.definitions.specs.Rows.{act_function, running_rows};
 ghost use Rattle.stock.specs.Pages.{PageFacts, IsSound};
 ghost use Rattle.stock.specs.Shows.{Shows, sent_under};
 ghost use Rattle.stock.specs.Puts.{put};
@@ -23,11 +23,11 @@ ghost use Rattle.rules.specs.Fitting.{IsFitting, has_columns};
 ghost use Rattle.rules.specs.Given.{given_by, given_under};
 ghost use Rattle.rules.specs.LegalPages.{IsLegalPage};
 ghost use Rattle.rules.specs.Played.{CanFollow};
-ghost use Rattle.profile.specs.Need.{Need, need_of};
+ghost use Rattle.definitions.specs.Need.{Need, need_of};
 ghost use Rattle.stock.specs.Parts.{IsClosed, IsPart};
 ghost use Rattle.rules.specs.Needs.{NamesFor};
 ghost use Rattle.rules.specs.Naming.{named_of};
-ghost use Rattle.sets_taken.specs.Tabled.{stock_part, stock_puts, with_rows};
+ghost use Rattle.set_effects.specs.Tabled.{stock_part, stock_puts, with_rows};
 
 /// The reply to a command looks at the own entries of the depositor that it names, and at no
 /// other's.

@@ -14,12 +14,12 @@ mod replays;
 mod told;
 
 pub use decisions::decide;
-pub use given::{Given, command_of};
-pub use profile::{Refusal, Rules};
-pub use repeats::{
+pub use definitions::{Refusal, Rules};
+pub use entries::{
     Act, Command, Decision, Entry, Key, Known, Name, Need, OutKind, Warehouse, decide_again, need,
     subject,
 };
+pub use given::{Given, command_of};
 pub use replays::{Replayed, replay};
 pub use segments::{Ident, Moment, Who};
 pub use sets_in::{Address, Goods};

@@ -1,14 +1,14 @@
 //! Acts, read from their canonical texts.
 ghost use Rattle.std.specs.Prelude.{◌≡◌, IfOk, map, filter_map, option_map};
-ghost use Rattle.profile.specs.Clerk.{raw_line};
-ghost use Rattle.profile.specs.Readings as meant;
-ghost use Rattle.profile.specs.Readings.{parts_at};
-ghost use Rattle.repeats.specs.Asked.{act_of};
+ghost use Rattle.definitions.specs.Clerk.{raw_line};
+ghost use Rattle.definitions.specs.Readings as meant;
+ghost use Rattle.definitions.specs.Readings.{parts_at};
+ghost use Rattle.entries.specs.Asked.{act_of};
 ghost use Rattle.rules.specs.ReadActs.{read_act};
 ghost use Rattle.rules.specs.Likely.{named_head, head_in, record_in, act_from, likely_act};
 
-use profile::{MOST_NUMBER, Rules};
-use repeats::Act;
+use definitions::{MOST_NUMBER, Rules};
+use entries::Act;
 use segments::Ident;
 use std::alloc::{AllocError, Global};
 use std::marker::Model;

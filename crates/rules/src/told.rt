@@ -1,16 +1,16 @@
 //! Which document tells of an act.
 ghost use Rattle.std.specs.Prelude.{◌≡◌, List, Ok, IfOk};
-ghost use Rattle.profile.specs.Clerk.{performed};
-ghost use Rattle.profile.specs.Events.{Event};
-ghost use Rattle.profile.specs.Texts.{document_of};
+ghost use Rattle.definitions.specs.Clerk.{performed};
+ghost use Rattle.definitions.specs.Events.{Event};
+ghost use Rattle.definitions.specs.Texts.{document_of};
 ghost use Rattle.stock.specs.Pages.{PageFacts};
 ghost use Rattle.stock.specs.Parts.{Named, IsPart};
 ghost use Rattle.stock.specs.Shows.{Shows};
-ghost use Rattle.repeats.specs.Asked.{act_of};
+ghost use Rattle.entries.specs.Asked.{act_of};
 ghost use Rattle.rules.specs.Needs.{NamesAct};
 
 use crate::documents::{adjustment, receipt, shipment};
-use repeats::Act;
+use entries::Act;
 use sets_out::Envelope;
 use std::alloc::{AllocError, Global};
 use stock::Page;

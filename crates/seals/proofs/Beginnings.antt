@@ -11,9 +11,9 @@ use Rattle.std.proofs.lemmas.Fmt.{decimal_nonempty, length-decimal-le}
 use Rattle.std.proofs.lemmas.List.{drop_at, take_at, take-append-drop, take_rest}
 use Rattle.std.proofs.lemmas.List.Quantifiers.{position-Some}
 use Rattle.std.proofs.Math.Seq.{drop-cons}
-use Rattle.profile.specs.Bytes.{is_digit, value}
-use Rattle.profile.proofs.TextLaws.{both_parts, decimal_reads, differs, same_text}
-use Rattle.profile.specs.Register.{Entry}
+use Rattle.definitions.specs.Bytes.{is_digit, value}
+use Rattle.definitions.proofs.TextLaws.{both_parts, decimal_reads, differs, same_text}
+use Rattle.definitions.specs.Register.{Entry}
 use Rattle.seals.specs.Noted.{beginning_at, beginning_in, begins_so, entries_in, is_seal}
 use Rattle.seals.specs.Seals.{seal_in, seal_of, seal_of_first, seal_text, written_so}
 use Rattle.seals.specs.declared.seal.TheConstants.{SEAL_BYTES}

@@ -1,6 +1,6 @@
 -- Registers that go on, as they are written down, and texts one after another.
 use Rattle.std.proofs.Common.{◌≡◌, ℕ, zero, suc, List, [], ◌∷◌, ◌++◌, length, take, refl, sym, ap, ◌∙◌, append_assoc, append-nil}
-use Rattle.profile.specs.Register.{Entry}
+use Rattle.definitions.specs.Register.{Entry}
 use Rattle.rules.specs.Written.{Written, written}
 use Rattle.store.specs.Replayed.{written_on}
 

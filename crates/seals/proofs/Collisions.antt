@@ -7,16 +7,16 @@ use Rattle.std.proofs.lemmas.List.{length-take-le}
 use Rattle.std.proofs.lemmas.List.Elements.{All-head, All-tail, All-take}
 use Rattle.std.proofs.lemmas.Fmt.{decimal_injective}
 use Rattle.sha2.proofs.Facts256.{length-sha256}
-use Rattle.profile.specs.declared.rules.Rules.{Rules}
-use Rattle.profile.specs.declared.rules.Rules.TheVariants.{One, Two}
-use Rattle.profile.specs.Rules.{rules_number}
-use Rattle.profile.specs.Header.{Who}
-use Rattle.profile.specs.Register.{Entry}
-use Rattle.profile.specs.Readings.{entry_from, is_entry}
-use Rattle.profile.specs.Accepted.{IsLegal}
-use Rattle.profile.proofs.TextLaws.{both_parts, same_text, text_is}
-use Rattle.profile.proofs.ReadingLaws.{entry_from-entry}
-use Rattle.profile.proofs.RegisterLaws.{legal-entries}
+use Rattle.definitions.specs.declared.rules.Rules.{Rules}
+use Rattle.definitions.specs.declared.rules.Rules.TheVariants.{One, Two}
+use Rattle.definitions.specs.Rules.{rules_number}
+use Rattle.definitions.specs.Header.{Who}
+use Rattle.definitions.specs.Register.{Entry}
+use Rattle.definitions.specs.Readings.{entry_from, is_entry}
+use Rattle.definitions.specs.Accepted.{IsLegal}
+use Rattle.definitions.proofs.TextLaws.{both_parts, same_text, text_is}
+use Rattle.definitions.proofs.ReadingLaws.{entry_from-entry}
+use Rattle.definitions.proofs.RegisterLaws.{legal-entries}
 use Rattle.rules.specs.Written.{Written, written}
 use Rattle.store.specs.Replayed.{all_written, written_on}
 use Rattle.seals.specs.Seals.{AreHeld, Collide, IsHeld, blank_seal, digested, digested_on, entry_text, fields, seal_after, seal_of, seal_of_first, seal_on}

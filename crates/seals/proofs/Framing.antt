@@ -5,8 +5,8 @@ use Rattle.std.specs.List.{list_all}
 use Rattle.std.proofs.lemmas.List.{take_at, drop_at}
 use Rattle.std.proofs.lemmas.List.Elements.{All-head, All-tail}
 use Rattle.std.proofs.lemmas.Fmt.{decimal_injective}
-use Rattle.profile.specs.Bytes.{is_digit}
-use Rattle.profile.proofs.TextLaws.{both_parts, decimal_reads}
+use Rattle.definitions.specs.Bytes.{is_digit}
+use Rattle.definitions.proofs.TextLaws.{both_parts, decimal_reads}
 use Rattle.seals.specs.Seals.{AreHeld, framed}
 
 -- what stands before the first colon, and behind it

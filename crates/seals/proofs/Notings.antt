@@ -3,7 +3,7 @@ use Rattle.std.proofs.Common.{◌≡◌, ◌+◌, ◌-◌, ℕ, Some, List, [], 
 use Rattle.std.specs.Prelude.{option_map}
 use Rattle.std.proofs.lemmas.List.{length_push}
 use Rattle.std.proofs.lemmas.List.Sums.{fold-append}
-use Rattle.profile.specs.Register.{Entry}
+use Rattle.definitions.specs.Register.{Entry}
 use Rattle.rules.specs.Written.{written}
 use Rattle.store.specs.Extent.{last_moment}
 use Rattle.store.specs.Replayed.{all_written}

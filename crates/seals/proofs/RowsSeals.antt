@@ -4,9 +4,9 @@ use Rattle.std.proofs.Common.{refl}
 use Rattle.std.specs.Fmt.{digits}
 use Rattle.sha2.specs.Sha256.{sha256, first_words, schedule, rounds, compress, hash_after, digest_bytes}
 use Rattle.hex.specs.Hex.{encode_with, decode_pairs}
-use Rattle.profile.specs.declared.rules.Rules.TheVariants.{One, Two}
-use Rattle.profile.specs.Register.{Enrolled, Entry}
-use Rattle.profile.proofs.Sample.{ACME, morning}
+use Rattle.definitions.specs.declared.rules.Rules.TheVariants.{One, Two}
+use Rattle.definitions.specs.Register.{Enrolled, Entry}
+use Rattle.definitions.proofs.Sample.{ACME, morning}
 use Rattle.rules.specs.Written.{Written}
 use Rattle.seals.specs.Noted.{beginning_in, begins_so, noted_line, noted_of, noted_of_first}
 use Rattle.seals.specs.Seals.{blank_seal, entry_text, framed, seal_in, seal_of, seal_on, seal_text}

@@ -2,9 +2,9 @@
 use Rattle.std.specs.Prelude.{ℕ, List, [], ◌∷◌, ◌++◌, ◌+◌, ◌==◌, ◌&&◌, nat_lt, nat_le, length, take, drop, position, codes, decimal, if◌then◌else◌, Option, Some, None, option_map, Bool, false, bytes_eq}
 use Rattle.std.specs.List.{list_all}
 use Rattle.std.specs.Option.{option_zip}
-use Rattle.profile.specs.Bytes.{is_digit, value}
-use Rattle.profile.specs.Moments.{Moment, stamp}
-use Rattle.profile.specs.Register.{Entry}
+use Rattle.definitions.specs.Bytes.{is_digit, value}
+use Rattle.definitions.specs.Moments.{Moment, stamp}
+use Rattle.definitions.specs.Register.{Entry}
 use Rattle.rules.specs.Written.{Written}
 use Rattle.store.specs.Extent.{last_moment}
 use Rattle.seals.specs.Seals.{seal_after, seal_in, seal_of, seal_of_first, seal_text}

@@ -3,10 +3,10 @@ use Rattle.std.specs.Prelude.{◌≡◌, ◌≢◌, ◌<◌, ◌^◌, ℕ, List,
 use Rattle.sha2.specs.Sha256.{sha256}
 use Rattle.hex.specs.Hex.{encode_lower, decode_sized}
 use Rattle.hex.specs.declared.error.FromHexError.{FromHexError}
-use Rattle.profile.specs.Rules.{rules_number}
-use Rattle.profile.specs.Moments.{stamp}
-use Rattle.profile.specs.Header.{who_text}
-use Rattle.profile.specs.Register.{Entry}
+use Rattle.definitions.specs.Rules.{rules_number}
+use Rattle.definitions.specs.Moments.{stamp}
+use Rattle.definitions.specs.Header.{who_text}
+use Rattle.definitions.specs.Register.{Entry}
 use Rattle.rules.specs.Written.{Written}
 use Rattle.store.specs.Replayed.{all_written}
 use Rattle.seals.specs.declared.seal.TheConstants.{SEAL_BYTES}

@@ -1,11 +1,11 @@
 //! Laws of seals: nothing runs, a contract is the law.
 ghost use Rattle.std.specs.Prelude.{◌≡◌, ◌⊎◌, ◌↔◌, ◌<◌, ◌^◌, IsTrue, true, ℕ, List, [], ◌∷◌, ◌++◌, length, take, flat_map, Option, Some, codes};
 ghost use Rattle.hex.specs.Hex.{IsBytes};
-ghost use Rattle.profile.specs.declared.rules.Rules.TheVariants.{Two};
-ghost use Rattle.profile.specs.Header.{Who};
-ghost use Rattle.profile.specs.Moments.{Moment};
-ghost use Rattle.profile.specs.Register.{Entry};
-ghost use Rattle.profile.specs.Accepted.{IsLegal};
+ghost use Rattle.definitions.specs.Rules.{Today};
+ghost use Rattle.definitions.specs.Header.{Who};
+ghost use Rattle.definitions.specs.Moments.{Moment};
+ghost use Rattle.definitions.specs.Register.{Entry};
+ghost use Rattle.definitions.specs.Accepted.{IsLegal};
 ghost use Rattle.rules.specs.Written.{written};
 ghost use Rattle.store.specs.Replayed.{written_on};
 ghost use Rattle.seals.specs.Noted.{beginning_in, begins_so, entries_in, noted_after, noted_of, noted_of_first, noted_text};
@@ -39,7 +39,7 @@ pub fn framed_texts_are_told_apart()
 /// have one SHA-256, and it is known which: they were digested for the two seals, at one place. No
 /// two such texts have been found so far.
 pub fn a_noted_seal_tells_the_entries()
-    ensures { (V W : Who) (L M : List Entry) → IsLegal Two V L → IsLegal Two W M → IsHeld L
+    ensures { (V W : Who) (L M : List Entry) → IsLegal Today V L → IsLegal Today W M → IsHeld L
         → IsHeld M → seal_of_first (length L) M ≡ Some (seal_of L)
         → (take (length L) M ≡ L) ⊎ Collide (digested (take (length L) M)) (digested L) }
 {}

@@ -1,6 +1,6 @@
 ghost use Rattle.std.specs.Prelude.{◌≡◌, ◌++◌, ℕ, List, decimal, option_map};
 ghost use Rattle.sha2.specs.Hashers.{Holds256};
-ghost use Rattle.profile.specs.Rules.{rules_number};
+ghost use Rattle.definitions.specs.Rules.{rules_number};
 ghost use Rattle.seals.specs.Seals as meant;
 ghost use Rattle.seals.specs.Seals.{framed};
 

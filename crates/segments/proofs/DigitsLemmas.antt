@@ -7,7 +7,7 @@ use Rattle.std.proofs.lemmas.List.{take-append-drop}
 use Rattle.std.proofs.lemmas.List.Folds.{list_all-append}
 use borrow.Author.Tests.{leb-true}
 use Rattle.std.proofs.Math.Nat.{mul-le-mul_left, pow-succ', pow-le-pow_right}
-use Rattle.profile.specs.Bytes.{is_digit, value}
+use Rattle.definitions.specs.Bytes.{is_digit, value}
 
 abbrev more : ℕ → ℕ → ℕ
 more n b = n * 10 + (b - 48)

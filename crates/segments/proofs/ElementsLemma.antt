@@ -3,7 +3,7 @@ use Rattle.std.proofs.Common.{◌≡◌, ℕ, List, ◌∷◌, ◌++◌, map, re
 use Rattle.std.specs.Prelude.{flat_map}
 use Rattle.std.specs.Borrow.{Bor}
 use Rattle.std.proofs.lemmas.List.Folds.{flat_map-map}
-use Rattle.profile.specs.Cut.{joined}
+use Rattle.definitions.specs.Cut.{joined}
 
 pub elements_joined : (c : ℕ) (old mid new : List ℕ) (es fs : List (Bor (List ℕ))) (f : Bor (List ℕ)) → es ≡ f ∷ fs → mid ≡ old ++ f.now → new ≡ mid ++ flat_map (λ e. c ∷ e.now) fs
     → new ≡ old ++ joined c (map (λ e. e.now) es)

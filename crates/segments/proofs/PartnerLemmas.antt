@@ -4,14 +4,14 @@ use Rattle.std.specs.Prelude.{◌&&◌, if◌then◌else◌, nat_le, bytes_eq, O
 use Rattle.std.specs.List.{list_all}
 use Rattle.std.specs.Prelude.{replicate, IsTrue}
 use Rattle.segments.proofs.FilledLemmas.{filled}
-use Rattle.profile.proofs.TextLaws.{both_parts}
+use Rattle.definitions.proofs.TextLaws.{both_parts}
 use borrow.Author.Tests.{leb-true}
 use Rattle.std.proofs.Math.Seq.{take-append_seam}
 use Rattle.std.proofs.lemmas.List.{take_all}
 use Rattle.std.proofs.lemmas.Slice.Eq.{bytes_eq-Decides}
-use Rattle.profile.specs.Bytes.{is_identifier, is_identifier_byte, is_alphanumeric}
-use Rattle.profile.specs.Header.{Who, is_partner, who_of, who_text}
-use Rattle.profile.specs.Limits.{least_partner, most_partner}
+use Rattle.definitions.specs.Bytes.{is_identifier, is_identifier_byte, is_alphanumeric}
+use Rattle.definitions.specs.Header.{Who, is_partner, who_of, who_text}
+use Rattle.definitions.specs.Limits.{least_partner, most_partner}
 use Rattle.segments.specs.Filled.{IsFilled, partner_in}
 use borrow.Rule.Slice.PartMut.{post_of}
 

@@ -6,14 +6,14 @@ use Rattle.std.proofs.lemmas.Option.{cond_some}
 use borrow.Author.Tests.{ltb-true, ltb-false}
 use Rattle.std.proofs.Common.{length-drop}
 use Rattle.std.proofs.lemmas.List.{nil_from_length, take_all}
-use Rattle.profile.specs.Bytes.{is_line_end}
+use Rattle.definitions.specs.Bytes.{is_line_end}
 use Rattle.std.proofs.Common.{◌-◌}
 use Rattle.std.specs.Prelude.{◌==◌}
 use Rattle.std.specs.List.{slice_split}
-use Rattle.profile.specs.Bytes.{Delims}
-use Rattle.profile.specs.Cut.{skipped, cut, Cut, Segment, Piece, spelled, StartsClean, Uncut, GivesSegment, pieces_left}
-use Rattle.profile.proofs.CutLaws.{cut_first, cut_none}
-use Rattle.profile.proofs.CutExistsLaws.{joined-elements, run_skipped, starts_skipped}
+use Rattle.definitions.specs.Bytes.{Delims}
+use Rattle.definitions.specs.Cut.{skipped, cut, Cut, Segment, Piece, spelled, StartsClean, Uncut, GivesSegment, pieces_left}
+use Rattle.definitions.proofs.CutLaws.{cut_first, cut_none}
+use Rattle.definitions.proofs.CutExistsLaws.{joined-elements, run_skipped, starts_skipped}
 use Rattle.std.proofs.lemmas.List.{take-append-drop}
 use Rattle.std.proofs.lemmas.List.Sums.{split_at_first, passes_at_first}
 use Rattle.std.proofs.lemmas.Bool.{eqb-true}

@@ -1,8 +1,8 @@
 ghost use Rattle.std.specs.Prelude.{◌≡◌, ◌++◌, ℕ, List, length, IsTrue, MatchOption, slice_get, nat_lt, bytes_eq, ◌==◌, not, position, [], ◌∷◌, option_copied};
 ghost use Rattle.std.specs.List.{slice_split, list_all};
 ghost use Rattle.std.specs.Iterator.{item_count};
-ghost use Rattle.profile.specs.Bytes.{is_line_end};
-ghost use Rattle.profile.specs.Cut as meant;
+ghost use Rattle.definitions.specs.Bytes.{is_line_end};
+ghost use Rattle.definitions.specs.Cut as meant;
 
 use crate::delims::Delims;
 use std::marker::Model;

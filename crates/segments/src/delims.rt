@@ -1,8 +1,8 @@
 ghost use Rattle.std.specs.Prelude.{◌≡◌, IsTrue};
-ghost use Rattle.profile.specs.Bytes.{Delims as Bounds, is_data};
-ghost use Rattle.profile.specs.Header.{are_delimiters, delims_in, is_delimiter};
+ghost use Rattle.definitions.specs.Bytes.{Delims as Bounds, is_data};
+ghost use Rattle.definitions.specs.Header.{are_delimiters, delims_in, is_delimiter};
 
-use profile::{COMPONENT_AT, ISA_BYTES, SEPARATOR_AT, TERMINATOR_AT};
+use definitions::{COMPONENT_AT, ISA_BYTES, SEPARATOR_AT, TERMINATOR_AT};
 use std::marker::Model;
 
 /// The three delimiters of an interchange, as ISA names them by using them: the element separator

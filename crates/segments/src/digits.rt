@@ -1,7 +1,7 @@
 //! Numbers in digits.
 ghost use Rattle.std.specs.Prelude.{◌≡◌, ◌≤◌, ◌^◌, length, min, true};
 ghost use Rattle.std.specs.List.{list_all};
-ghost use Rattle.profile.specs.Bytes as bytes;
+ghost use Rattle.definitions.specs.Bytes as bytes;
 
 /// Whether each byte is a digit.
 pub fn all_digits(text: &[u8]) -> bool

@@ -1,13 +1,13 @@
 ghost use Rattle.std.specs.Prelude.{◌≡◌, ◌+◌, ◌<◌, map, option_map, Some, None};
-ghost use Rattle.profile.specs.Elements as meant;
+ghost use Rattle.definitions.specs.Elements as meant;
 ghost use Rattle.segments.specs.Rows.{row_of};
-ghost use Rattle.profile.specs.Faults as faults_meant;
+ghost use Rattle.definitions.specs.Faults as faults_meant;
 
 use crate::cutting::Segment;
 use crate::delims::Delims;
 use crate::kinds::{ElementRow, Kind, element_fault};
 use crate::must;
-use profile::{
+use definitions::{
     CONTROL_DIGITS, DATE_DIGITS, FUNCTION_BYTES, GROUPS_DIGITS, LEAST_SET_CONTROL, LEAST_SIDE,
     LEAST_TIME, MOST_AGENCY, MOST_SET_CONTROL, MOST_SIDE, MOST_TIME, MOST_VERSION, SEGMENTS_DIGITS,
     SET_BYTES, SETS_DIGITS,

@@ -1,6 +1,6 @@
 ghost use Rattle.std.specs.Prelude.{◌≡◌, ℕ, List, IsTrue, true, false, MatchOption};
 ghost use Rattle.std.specs.List.{list_all};
-ghost use Rattle.profile.specs.Bytes.{is_alphanumeric, is_identifier, is_identifier_byte};
+ghost use Rattle.definitions.specs.Bytes.{is_alphanumeric, is_identifier, is_identifier_byte};
 
 use std::marker::Model;
 

@@ -1,15 +1,15 @@
 ghost use Rattle.std.specs.Prelude.{◌≡◌, ◌==◌, ◌&&◌, not, take, drop, nat_le, bytes_eq, length, true};
 ghost use Rattle.std.specs.List.{list_all, list_any};
-ghost use Rattle.profile.specs.Bytes as bytes;
-ghost use Rattle.profile.specs.Moments as moments;
-ghost use Rattle.profile.specs.Elements as meant;
+ghost use Rattle.definitions.specs.Bytes as bytes;
+ghost use Rattle.definitions.specs.Moments as moments;
+ghost use Rattle.definitions.specs.Elements as meant;
 ghost use Rattle.segments.specs.Rows.{kind_of, row_of};
 
 use crate::delims::Delims;
 use crate::digits::{all_digits, number};
 use crate::idents::{is_alphanumeric_byte, is_ident_byte};
 use crate::moments::is_day;
-use profile::{DATE_DIGITS, LEAST_TIME};
+use definitions::{DATE_DIGITS, LEAST_TIME};
 
 /// The types of elements, as an element row names them.
 pub enum Kind {

@@ -1,8 +1,8 @@
 ghost use Rattle.std.specs.Prelude.{◌≡◌, IsTrue, true, false, MatchOption};
-ghost use Rattle.profile.specs.Moments.{Moment as Parts, is_moment, is_day, date8, time4, stamp};
+ghost use Rattle.definitions.specs.Moments.{Moment as Parts, is_moment, is_day, date8, time4, stamp};
 
+use definitions::zero_filled;
 use jiff::civil::Date;
-use profile::zero_filled;
 use std::marker::Model;
 
 /// A minute of the years 2000 to 2099, in UTC.

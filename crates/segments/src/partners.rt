@@ -1,10 +1,10 @@
 ghost use Rattle.std.specs.Prelude.{◌≡◌, ◌-◌, ◌++◌, Some, None, if◌then◌else◌, IsTrue, replicate, length};
-ghost use Rattle.profile.specs.Header.{Who as Partner, is_partner, who_eq, who_of, who_text};
+ghost use Rattle.definitions.specs.Header.{Who as Partner, is_partner, who_eq, who_of, who_text};
 ghost use Rattle.segments.specs.Filled.{IsFilled, partner_in, length_front, filled_front};
 ghost use Rattle.segments.specs.declared.partners.TheConstants.{TEXT_BYTES};
 
 use crate::idents::{all_alphanumeric, is_ident};
-use profile::{LEAST_PARTNER, MOST_PARTNER, QUALIFIER_BYTES};
+use definitions::{LEAST_PARTNER, MOST_PARTNER, QUALIFIER_BYTES};
 use std::marker::Model;
 
 // The bytes of the longest text of a partner: a qualifier, a hyphen, and an id.

@@ -1,5 +1,5 @@
 ghost use Rattle.std.specs.Prelude.{◌≡◌, ◌++◌, map, OnOk, OnErr, flat_map, ◌∷◌};
-ghost use Rattle.profile.specs.Cut as meaning;
+ghost use Rattle.definitions.specs.Cut as meaning;
 ghost use Rattle.segments.specs.Extends.{Extends};
 
 use crate::delims::Delims;

@@ -3,15 +3,15 @@ use Rattle.std.proofs.Common.{◌≡◌, ℕ, zero, suc, Bool, true, false, List
 use Rattle.std.specs.Prelude.{codes, bytes_eq, ◌||◌}
 use Rattle.std.specs.List.{AllByRecursion}
 use Rattle.std.proofs.lemmas.Slice.Eq.{bytes_eq-Decides}
-use Rattle.profile.specs.Bytes.{Delims, value}
-use Rattle.profile.specs.Cut.{Segment, element, id_of, has_id, segment_with, segments_of, last_segment}
-use Rattle.profile.specs.Words.{Words, Never, Empty, One, Then, Or, Times, IsWord, IsRow, mentions, words_997}
-use Rattle.profile.specs.declared.set_kind.SetKind.TheVariants.{FunctionalAcknowledgment}
-use Rattle.profile.specs.declared.rules.Rules.TheVariants.{Two}
-use Rattle.profile.specs.Faults.{fault_from}
-use Rattle.profile.specs.Limits.{most_told_sets}
-use Rattle.profile.specs.Means.{Acknowledgment, acknowledgment_of}
-use Rattle.profile.proofs.WordsLaws.{viable_to}
+use Rattle.definitions.specs.Bytes.{Delims, value}
+use Rattle.definitions.specs.Cut.{Segment, element, id_of, has_id, segment_with, segments_of, last_segment}
+use Rattle.definitions.specs.Words.{Words, Never, Empty, One, Then, Or, Times, IsWord, IsRow, mentions, words_997}
+use Rattle.definitions.specs.declared.set_kind.SetKind.TheVariants.{FunctionalAcknowledgment}
+use Rattle.definitions.specs.Rules.{Today}
+use Rattle.definitions.specs.Faults.{fault_from}
+use Rattle.definitions.specs.Limits.{most_told_sets}
+use Rattle.definitions.specs.Means.{Acknowledgment, acknowledgment_of}
+use Rattle.definitions.proofs.WordsLaws.{viable_to}
 use Rattle.tables.specs.Acknowledgment.{judged, total}
 use Rattle.tables.specs.Judged.{Whole, IsUnfaulted}
 use Rattle.sets_in.specs.SaidAck.{AckSet, IsAckSet, IsToldOfSets, printed, meaning, SaysAck}
@@ -148,9 +148,9 @@ nothing_more ids more front e w = by_parts (parse (λ x. x) (ids ++ more) (subst
         let whole : ids ++ more ≡ before ++ p.se ∷ [] = p.parts ∙ ap (λ y. p.st ∷ p.ak1 ∷ y) (sym (append_assoc p.body (p.ak9 ∷ []) (p.se ∷ []))) in
         once before front more p.se none (ap (λ y. y ++ more) (sym e) ∙ whole)
 
-whole_ack : (d : Delims) (ss : List Segment) → fault_from Two d words_997 words_997 [] 1 ss ≡ None → has_id (codes "SE") (last_segment ss) ≡ true → Parsed id_of ss
+whole_ack : (d : Delims) (ss : List Segment) → fault_from Today d words_997 words_997 [] 1 ss ≡ None → has_id (codes "SE") (last_segment ss) ≡ true → Parsed id_of ss
 whole_ack d ss h t =
-    let v = viable_to words_997 (map id_of ss) (viable Two d words_997 words_997 [] 1 ss refl h) in
+    let v = viable_to words_997 (map id_of ss) (viable Today d words_997 words_997 [] 1 ss refl h) in
     let e = ends ss t in
     let none : v.0 ≡ [] = nothing_more (map id_of ss) v.0 e.0 e.1 v.1 in
     parse id_of ss (subst (IsWord words_997) (append-nil (map id_of ss)) (subst (λ (m : Ids). IsWord words_997 (map id_of ss ++ m)) none v.1))

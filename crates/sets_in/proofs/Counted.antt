@@ -2,17 +2,17 @@
 -- rules 1 allow rules 2 allow.
 use Rattle.std.proofs.Common.{◌≡◌, List, [], None, sym, ◌∙◌, subst}
 use Rattle.std.specs.Prelude.{codes}
-use Rattle.profile.specs.declared.rules.Rules.{Rules}
-use Rattle.profile.specs.declared.rules.Rules.TheVariants.{One, Two}
-use Rattle.profile.specs.Bytes.{Delims}
-use Rattle.profile.specs.Cut.{Segment, segments_of, segment_with, element}
-use Rattle.profile.specs.Words.{kind_words, words_940, words_943, words_997}
-use Rattle.profile.specs.declared.set_kind.SetKind.{SetKind}
-use Rattle.profile.specs.declared.set_kind.SetKind.TheVariants.{ShippingOrder, ShipmentAdvice, FunctionalAcknowledgment}
-use Rattle.profile.specs.Faults.{fault_from, set_fault}
-use Rattle.profile.specs.declared.widths.TheConstants.{ADVICE_TOTAL_DIGITS_TWO, ORDER_TOTAL_DIGITS_TWO}
-use Rattle.profile.proofs.FaultsLaws.{set_fault-from}
-use Rattle.profile.proofs.LaterLaws.{set_fault-later}
+use Rattle.definitions.specs.declared.rules.Rules.{Rules}
+use Rattle.definitions.specs.declared.rules.Rules.TheVariants.{One, Two}
+use Rattle.definitions.specs.Bytes.{Delims}
+use Rattle.definitions.specs.Cut.{Segment, segments_of, segment_with, element}
+use Rattle.definitions.specs.Words.{kind_words, words_940, words_943, words_997}
+use Rattle.definitions.specs.declared.set_kind.SetKind.{SetKind}
+use Rattle.definitions.specs.declared.set_kind.SetKind.TheVariants.{ShippingOrder, ShipmentAdvice, FunctionalAcknowledgment}
+use Rattle.definitions.specs.Faults.{fault_from, set_fault}
+use Rattle.definitions.specs.declared.widths.TheConstants.{ADVICE_TOTAL_DIGITS_TWO, ORDER_TOTAL_DIGITS_TWO}
+use Rattle.definitions.proofs.FaultsLaws.{set_fault-from}
+use Rattle.definitions.proofs.LaterLaws.{set_fault-later}
 use Rattle.tables.specs.Judged.{Whole, IsUnfaulted}
 use Rattle.sets_in.specs.Amounts.{IsAmount, IsCountable}
 use Rattle.sets_in.proofs.Sound.{goods_amounts, ordered_amounts, advised_totals, ordered_totals, document_numbers, amount_with}

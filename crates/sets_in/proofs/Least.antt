@@ -4,11 +4,11 @@ use Rattle.std.proofs.Common.{◌≡◌, ℕ, ◌+◌, ◌*◌, ◌≤◌, true,
 use Rattle.std.specs.Prelude.{flat_map}
 use Rattle.std.specs.List.{list_all}
 use Rattle.std.specs.Cmp.Derive.{both_true}
-use Rattle.profile.specs.Cut.{Segment}
-use Rattle.profile.specs.Faults.{SetFault}
-use Rattle.profile.specs.Means.{AdviceLine, Advice, OrderLine, Order}
-use Rattle.profile.specs.Events.{Event, advice_fault, order_fault}
-use Rattle.profile.proofs.TradeLaws.{is_line_at, are_advice_lines, are_order_lines, IsBefore, advice_fault-least, order_fault-least}
+use Rattle.definitions.specs.Cut.{Segment}
+use Rattle.definitions.specs.Faults.{SetFault}
+use Rattle.definitions.specs.Means.{AdviceLine, Advice, OrderLine, Order}
+use Rattle.definitions.specs.Events.{Event, advice_fault, order_fault}
+use Rattle.definitions.proofs.TradeLaws.{is_line_at, are_advice_lines, are_order_lines, IsBefore, advice_fault-least, order_fault-least}
 use Rattle.sets_in.specs.Said as advised
 use Rattle.sets_in.specs.SaidOrder as ordered
 use Rattle.sets_in.specs.TradeFaults.{faults_of_advice, faults_of_order, IsLeastOf}

@@ -3,10 +3,10 @@ use Rattle.std.proofs.Common.{◌≡◌, ℕ, ◌+◌, ◌-◌, ◌*◌, false, 
 use Rattle.std.specs.Prelude.{codes, bytes_eq, nat_lt, slice_get, unwrap_or, Option}
 use Rattle.std.proofs.Common.{inl, inr}
 use Rattle.std.specs.List.{AllByRecursion}
-use Rattle.profile.specs.Bytes.{value}
-use Rattle.profile.specs.Cut.{Segment, element, id_of, has_id, segment_with, segments_of}
-use Rattle.profile.specs.declared.set_kind.SetKind.TheVariants.{ShipmentAdvice}
-use Rattle.profile.specs.Means.{Advice, AdviceLine, advice_of, advice_line, expiry_of, segment_at, place_of}
+use Rattle.definitions.specs.Bytes.{value}
+use Rattle.definitions.specs.Cut.{Segment, element, id_of, has_id, segment_with, segments_of}
+use Rattle.definitions.specs.declared.set_kind.SetKind.TheVariants.{ShipmentAdvice}
+use Rattle.definitions.specs.Means.{Advice, AdviceLine, advice_of, advice_line, expiry_of, segment_at, place_of}
 use Rattle.tables.specs.Judged.{Whole, IsUnfaulted}
 use Rattle.sets_in.specs.Places.{places_from}
 use Rattle.sets_in.specs.Said.{AdviceSet, IsAdviceSet, IsAdviceHeader, in_pairs, printed, date_in, lines_at, meaning, SaysAdvice}

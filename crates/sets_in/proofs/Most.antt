@@ -3,13 +3,13 @@ use Rattle.std.proofs.Common.{◌≡◌, ℕ, ◌+◌, ◌-◌, ◌*◌, ◌≤�
 use Rattle.std.specs.Prelude.{codes, if◌then◌else◌, bytes_eq, max, ◌==◌, filter, ◌⊎◌}
 use Rattle.std.specs.List.{enumerate_from}
 use Rattle.std.proofs.lemmas.Slice.Eq.{bytes_eq-Decides}
-use Rattle.profile.specs.declared.rules.Rules.{Rules}
-use Rattle.profile.specs.declared.rules.Rules.TheVariants as rules
-use Rattle.profile.specs.Bytes.{Delims}
-use Rattle.profile.specs.Cut.{Segment, id_of, has_id, places_of}
-use Rattle.profile.specs.Limits.{most_lines}
-use Rattle.profile.specs.Words.{Words, Never, Empty, One, Then, Or, Times, has_word, has_empty, words_after, then_words, or_words, times_words, words_943, words_940}
-use Rattle.profile.specs.Faults.{fault_from}
+use Rattle.definitions.specs.declared.rules.Rules.{Rules}
+use Rattle.definitions.specs.declared.rules.Rules.TheVariants as rules
+use Rattle.definitions.specs.Bytes.{Delims}
+use Rattle.definitions.specs.Cut.{Segment, id_of, has_id, places_of}
+use Rattle.definitions.specs.Limits.{most_lines}
+use Rattle.definitions.specs.Words.{Words, Never, Empty, One, Then, Or, Times, has_word, has_empty, words_after, then_words, or_words, times_words, words_943, words_940}
+use Rattle.definitions.specs.Faults.{fault_from}
 use Rattle.sets_in.proofs.Sound.{from_parts}
 
 abbrev hit : List ℕ → List ℕ → ℕ

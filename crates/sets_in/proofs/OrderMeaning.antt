@@ -3,10 +3,10 @@ use Rattle.std.proofs.Common.{◌≡◌, ℕ, ◌+◌, Bool, true, false, List, 
 use Rattle.std.specs.Prelude.{codes, bytes_eq, slice_get, unwrap_or, flat_map, find, IfSome, option_to_list, ◌||◌, ◌&&◌}
 use Rattle.std.specs.List.{AllByRecursion, take_while}
 use Rattle.std.proofs.lemmas.List.Sums.{take_while-cons}
-use Rattle.profile.specs.Bytes.{value}
-use Rattle.profile.specs.Cut.{Segment, element, id_of, has_id, segment_with, segments_of}
-use Rattle.profile.specs.declared.set_kind.SetKind.TheVariants.{ShippingOrder}
-use Rattle.profile.specs.Means.{Order, OrderLine, Address, order_of, order_line, pin_of, is_ship_to, address_of, ship_to, spaced, segment_at, place_of}
+use Rattle.definitions.specs.Bytes.{value}
+use Rattle.definitions.specs.Cut.{Segment, element, id_of, has_id, segment_with, segments_of}
+use Rattle.definitions.specs.declared.set_kind.SetKind.TheVariants.{ShippingOrder}
+use Rattle.definitions.specs.Means.{Order, OrderLine, Address, order_of, order_line, pin_of, is_ship_to, address_of, ship_to, spaced, segment_at, place_of}
 use Rattle.tables.specs.Judged.{Whole, IsUnfaulted}
 use Rattle.sets_in.specs.Places.{places_from}
 use Rattle.sets_in.specs.SaidOrder.{Party, OrderedGoods, OrderSet, in_party, in_goods, printed, IsParty, IsGoods, IsOrderSet, address_in, lines_at, meaning, SaysOrder}

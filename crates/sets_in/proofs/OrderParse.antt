@@ -2,13 +2,13 @@
 use Rattle.std.proofs.Common.{◌≡◌, ℕ, zero, suc, ◌≤◌, true, false, List, [], ◌∷◌, ◌++◌, map, refl, sym, ◌∙◌, ap, subst, inl, inr, append_assoc, append-nil, Option, Some, None, arith}
 use Rattle.std.specs.Prelude.{codes, bytes_eq, flat_map, IfSome, option_to_list}
 use Rattle.std.specs.List.{AllByRecursion}
-use Rattle.profile.specs.Bytes.{Delims}
-use Rattle.profile.specs.Cut.{Segment, id_of, has_id, last_segment}
-use Rattle.profile.specs.declared.rules.Rules.TheVariants.{Two}
-use Rattle.profile.specs.Limits.{most_lines}
-use Rattle.profile.specs.Words.{Words, One, Then, Times, IsWord, IsRow, words_940, optional}
-use Rattle.profile.specs.Faults.{fault_from}
-use Rattle.profile.proofs.WordsLaws.{viable_to}
+use Rattle.definitions.specs.Bytes.{Delims}
+use Rattle.definitions.specs.Cut.{Segment, id_of, has_id, last_segment}
+use Rattle.definitions.specs.Rules.{Today}
+use Rattle.definitions.specs.Limits.{most_lines}
+use Rattle.definitions.specs.Words.{Words, One, Then, Times, IsWord, IsRow, words_940, optional}
+use Rattle.definitions.specs.Faults.{fault_from}
+use Rattle.definitions.proofs.WordsLaws.{viable_to}
 use Rattle.tables.specs.Order.{address, party, goods, line, total, lines, dates, references}
 use Rattle.sets_in.specs.SaidOrder.{Party, OrderedGoods, OrderSet, in_party, in_goods, printed, IsOrderHeader, IsParty, IsGoods, IsOrderSet}
 use Rattle.sets_in.proofs.Parse.{Ids, split, cons_word, times_word, last_word, all_so, all_both}
@@ -95,7 +95,7 @@ ended {X} f xs h = with_total (cons_word f xs (codes "W76") (One (codes "SE")) h
 -- the header, and the words of what stands after it
 
 abbrev Headed : {X : Type 0} → (X → List ℕ) → List X → Type 0
-Headed {X} f xs = (hs zs : List X) × (xs ≡ hs ++ zs) × AllByRecursion (λ x. IsOrderHeader (f x)) hs × IsWord (lines Two) (map f zs)
+Headed {X} f xs = (hs zs : List X) × (xs ≡ hs ++ zs) × AllByRecursion (λ x. IsOrderHeader (f x)) hs × IsWord (lines Today) (map f zs)
 
 more_header : {X : Type 0} (f : X → List ℕ) (xs : List X) (id : List ℕ) → IsOrderHeader id → (ys zs : List X) → xs ≡ ys ++ zs → AllByRecursion (λ x. f x ≡ id) ys → Headed f zs → Headed f xs
 more_header {X} f xs id is ys zs e all (hs, rest, d, b, w) =
@@ -103,12 +103,12 @@ more_header {X} f xs id is ys zs e all (hs, rest, d, b, w) =
     let mine : AllByRecursion P ys = all_so (λ x. f x ≡ id) P (λ x k. subst IsOrderHeader (sym k) is) ys all in
     (ys ++ hs, rest, e ∙ ap (λ y. ys ++ y) d ∙ sym (append_assoc ys hs rest), all_both P ys hs mine b, w)
 
-with_dates : {X : Type 0} (f : X → List ℕ) (xs : List X) → IsWord (dates Two) (map f xs) → Headed f xs
-with_dates f xs h = let t = times_word f xs 0 2 (codes "G62") (lines Two) h in
+with_dates : {X : Type 0} (f : X → List ℕ) (xs : List X) → IsWord (dates Today) (map f xs) → Headed f xs
+with_dates f xs h = let t = times_word f xs 0 2 (codes "G62") (lines Today) h in
     more_header f xs (codes "G62") (inr refl) t.0 t.1 t.2 t.3 ([], t.1, refl, tt, t.4)
 
-with_references : {X : Type 0} (f : X → List ℕ) (xs : List X) → IsWord (references Two) (map f xs) → Headed f xs
-with_references f xs h = let t = times_word f xs 0 5 (codes "N9") (dates Two) h in
+with_references : {X : Type 0} (f : X → List ℕ) (xs : List X) → IsWord (references Today) (map f xs) → Headed f xs
+with_references f xs h = let t = times_word f xs 0 5 (codes "N9") (dates Today) h in
     more_header f xs (codes "N9") (inl refl) t.0 t.1 t.2 t.3 (with_dates f t.1 t.4)
 
 -- the whole
@@ -125,8 +125,8 @@ built {X} f xs st w05 ys zs a p b q ps hs gs w76 se c are_parties are_header are
     let is : IsOrderSet f t = record { st = p; w05 = q; parties = are_parties; header = are_header; goods = are_goods; w76 = is_w76; se = is_se } in
     (t, a ∙ ap (λ y. st ∷ y) (b ∙ ap (λ y. w05 ∷ y) c), is)
 
-pub parse : {X : Type 0} (f : X → List ℕ) (xs : List X) → IsWord (words_940 Two) (map f xs) → Parsed f xs
-parse {X} f xs h = with_st (cons_word f xs (codes "ST") (Then (One (codes "W05")) (Then (Times 0 5 party) (references Two))) h)
+pub parse : {X : Type 0} (f : X → List ℕ) (xs : List X) → IsWord (words_940 Today) (map f xs) → Parsed f xs
+parse {X} f xs h = with_st (cons_word f xs (codes "ST") (Then (One (codes "W05")) (Then (Times 0 5 party) (references Today))) h)
   where
     with_end : (st w05 : X) (ys zs : List X) → xs ≡ st ∷ ys → f st ≡ codes "ST" → ys ≡ w05 ∷ zs → f w05 ≡ codes "W05"
         → (ps : List (Party X)) (hs : List X) (gs : List (OrderedGoods X)) (rest : List X) → zs ≡ flat_map in_party ps ++ (hs ++ (flat_map in_goods gs ++ rest))
@@ -137,17 +137,17 @@ parse {X} f xs h = with_st (cons_word f xs (codes "ST") (Then (One (codes "W05")
     with_header : (st w05 : X) (ys zs : List X) → xs ≡ st ∷ ys → f st ≡ codes "ST" → ys ≡ w05 ∷ zs → f w05 ≡ codes "W05"
         → (ps : List (Party X)) (rest : List X) → zs ≡ flat_map in_party ps ++ rest → AllByRecursion (IsParty f) ps → Headed f rest → Parsed f xs
     with_header st w05 ys zs a p b q ps rest c are_parties (hs, more, d, are_header, w) =
-        let g = trees_word f 1 (most_lines Two) line total in_goods (IsGoods f) (some_goods f) more w in
+        let g = trees_word f 1 (most_lines Today) line total in_goods (IsGoods f) (some_goods f) more w in
         with_end st w05 ys zs a p b q ps hs g.0 g.1 (c ∙ ap (λ y. flat_map in_party ps ++ y) (d ∙ ap (λ y. hs ++ y) g.2)) are_parties are_header g.3 (ended f g.1 g.4)
 
     with_w05 : (st : X) (ys : List X) → xs ≡ st ∷ ys → f st ≡ codes "ST"
-        → (x : X) × (zs : List X) × (ys ≡ x ∷ zs) × (f x ≡ codes "W05") × IsWord (Then (Times 0 5 party) (references Two)) (map f zs) → Parsed f xs
+        → (x : X) × (zs : List X) × (ys ≡ x ∷ zs) × (f x ≡ codes "W05") × IsWord (Then (Times 0 5 party) (references Today)) (map f zs) → Parsed f xs
     with_w05 st ys a p (x, zs, b, q, w) =
-        let s = trees_word f 0 5 party (references Two) in_party (IsParty f) (a_party f) zs w in
+        let s = trees_word f 0 5 party (references Today) in_party (IsParty f) (a_party f) zs w in
         with_header st x ys zs a p b q s.0 s.1 s.2 s.3 (with_references f s.1 s.4)
 
-    with_st : (x : X) × (ys : List X) × (xs ≡ x ∷ ys) × (f x ≡ codes "ST") × IsWord (Then (One (codes "W05")) (Then (Times 0 5 party) (references Two))) (map f ys) → Parsed f xs
-    with_st (x, ys, a, p, w) = with_w05 x ys a p (cons_word f ys (codes "W05") (Then (Times 0 5 party) (references Two)) w)
+    with_st : (x : X) × (ys : List X) × (xs ≡ x ∷ ys) × (f x ≡ codes "ST") × IsWord (Then (One (codes "W05")) (Then (Times 0 5 party) (references Today))) (map f ys) → Parsed f xs
+    with_st (x, ys, a, p, w) = with_w05 x ys a p (cons_word f ys (codes "W05") (Then (Times 0 5 party) (references Today)) w)
 
 -- ids that aren't among those of a part
 
@@ -190,8 +190,8 @@ other_in_header {X} f id (x ∷ hs) a b h = (by_id h.0, other_in_header f id hs 
 
 -- a set without a fault that ends with SE is a whole word
 
-nothing_more : (ids more front : Ids) → ids ≡ front ++ codes "SE" ∷ [] → IsWord (words_940 Two) (ids ++ more) → more ≡ []
-nothing_more ids more front e w = by_parts (parse (λ x. x) (ids ++ more) (subst (IsWord (words_940 Two)) (sym (map_same (ids ++ more))) w))
+nothing_more : (ids more front : Ids) → ids ≡ front ++ codes "SE" ∷ [] → IsWord (words_940 Today) (ids ++ more) → more ≡ []
+nothing_more ids more front e w = by_parts (parse (λ x. x) (ids ++ more) (subst (IsWord (words_940 Today)) (sym (map_same (ids ++ more))) w))
   where
     by_parts : Parsed (λ x. x) (ids ++ more) → more ≡ []
     by_parts (t, parts, is) =
@@ -213,9 +213,9 @@ nothing_more ids more front e w = by_parts (parse (λ x. x) (ids ++ more) (subst
         ∙ sym (append_assoc t.header (all_goods ++ t.w76 ∷ []) (t.se ∷ []))) ∙ sym (append_assoc parties (t.header ++ (all_goods ++ t.w76 ∷ [])) (t.se ∷ []))) in
         once before front more t.se none (ap (λ y. y ++ more) (sym e) ∙ whole)
 
-pub whole_order : (d : Delims) (ss : List Segment) → fault_from Two d (words_940 Two) (words_940 Two) [] 1 ss ≡ None → has_id (codes "SE") (last_segment ss) ≡ true → Parsed id_of ss
+pub whole_order : (d : Delims) (ss : List Segment) → fault_from Today d (words_940 Today) (words_940 Today) [] 1 ss ≡ None → has_id (codes "SE") (last_segment ss) ≡ true → Parsed id_of ss
 whole_order d ss h t =
-    let v = viable_to (words_940 Two) (map id_of ss) (viable Two d (words_940 Two) (words_940 Two) [] 1 ss refl h) in
+    let v = viable_to (words_940 Today) (map id_of ss) (viable Today d (words_940 Today) (words_940 Today) [] 1 ss refl h) in
     let e = ends ss t in
     let none : v.0 ≡ [] = nothing_more (map id_of ss) v.0 e.0 e.1 v.1 in
-    parse id_of ss (subst (IsWord (words_940 Two)) (append-nil (map id_of ss)) (subst (λ (m : Ids). IsWord (words_940 Two) (map id_of ss ++ m)) none v.1))
+    parse id_of ss (subst (IsWord (words_940 Today)) (append-nil (map id_of ss)) (subst (λ (m : Ids). IsWord (words_940 Today) (map id_of ss ++ m)) none v.1))

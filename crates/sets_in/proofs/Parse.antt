@@ -2,9 +2,9 @@
 use Rattle.std.proofs.Common.{◌≡◌, ℕ, zero, suc, List, [], ◌∷◌, ◌++◌, map, refl, sym, ◌∙◌, ap, subst, inl, inr, append_assoc}
 use Rattle.std.specs.Prelude.{codes}
 use Rattle.std.specs.List.{AllByRecursion}
-use Rattle.profile.specs.declared.rules.Rules.TheVariants.{Two}
-use Rattle.profile.specs.Limits.{most_lines}
-use Rattle.profile.specs.Words.{Words, One, Then, Times, IsWord, IsRow, words_943}
+use Rattle.definitions.specs.Rules.{Today}
+use Rattle.definitions.specs.Limits.{most_lines}
+use Rattle.definitions.specs.Words.{Words, One, Then, Times, IsWord, IsRow, words_943}
 use Rattle.tables.specs.Advice.{total, lines, dates, references}
 use Rattle.sets_in.specs.Said.{IsAdviceHeader, in_pairs}
 
@@ -105,15 +105,15 @@ abbrev Lined : {X : Type 0} → (X → List ℕ) → List X → Type 0
 Lined {X} f xs = (gs : List (X × X)) × (w03 se : X) × (xs ≡ in_pairs gs ++ w03 ∷ se ∷ [])
     × AllByRecursion (λ g. (f g.0 ≡ codes "W04") × (f g.1 ≡ codes "N9")) gs × (f w03 ≡ codes "W03") × (f se ≡ codes "SE")
 
-lined : {X : Type 0} (f : X → List ℕ) (xs : List X) → IsWord (lines Two) (map f xs) → Lined f xs
-lined {X} f xs h = with_goods (goods_word f xs 1 (most_lines Two) (codes "W04") (codes "N9") total h)
+lined : {X : Type 0} (f : X → List ℕ) (xs : List X) → IsWord (lines Today) (map f xs) → Lined f xs
+lined {X} f xs h = with_goods (goods_word f xs 1 (most_lines Today) (codes "W04") (codes "N9") total h)
   where
     with_goods : (gs : List (X × X)) × (zs : List X) × (xs ≡ in_pairs gs ++ zs) × AllByRecursion (λ g. (f g.0 ≡ codes "W04") × (f g.1 ≡ codes "N9")) gs × IsWord total (map f zs) → Lined f xs
     with_goods (gs, zs, e, all, w) = let l = ended f zs w in (gs, l.0, l.1, e ∙ ap (λ y. in_pairs gs ++ y) l.2, all, l.3, l.4)
 
 -- the header, and the words of what stands after it
 abbrev Headed : {X : Type 0} → (X → List ℕ) → List X → Type 0
-Headed {X} f xs = (hs zs : List X) × (xs ≡ hs ++ zs) × AllByRecursion (λ x. IsAdviceHeader (f x)) hs × IsWord (lines Two) (map f zs)
+Headed {X} f xs = (hs zs : List X) × (xs ≡ hs ++ zs) × AllByRecursion (λ x. IsAdviceHeader (f x)) hs × IsWord (lines Today) (map f zs)
 
 more_header : {X : Type 0} (f : X → List ℕ) (xs : List X) (id : List ℕ) → IsAdviceHeader id → (ys zs : List X) → xs ≡ ys ++ zs → AllByRecursion (λ x. f x ≡ id) ys → Headed f zs → Headed f xs
 more_header {X} f xs id is ys zs e all (hs, rest, d, b, w) =
@@ -121,16 +121,16 @@ more_header {X} f xs id is ys zs e all (hs, rest, d, b, w) =
     let mine : AllByRecursion P ys = all_so (λ x. f x ≡ id) P (λ x k. subst IsAdviceHeader (sym k) is) ys all in
     (ys ++ hs, rest, e ∙ ap (λ y. ys ++ y) d ∙ sym (append_assoc ys hs rest), all_both P ys hs mine b, w)
 
-with_dates : {X : Type 0} (f : X → List ℕ) (xs : List X) → IsWord (dates Two) (map f xs) → Headed f xs
-with_dates f xs h = let t = times_word f xs 0 2 (codes "G62") (lines Two) h in
+with_dates : {X : Type 0} (f : X → List ℕ) (xs : List X) → IsWord (dates Today) (map f xs) → Headed f xs
+with_dates f xs h = let t = times_word f xs 0 2 (codes "G62") (lines Today) h in
     more_header f xs (codes "G62") (inr (inr refl)) t.0 t.1 t.2 t.3 ([], t.1, refl, tt, t.4)
 
-with_references : {X : Type 0} (f : X → List ℕ) (xs : List X) → IsWord (references Two) (map f xs) → Headed f xs
-with_references f xs h = let t = times_word f xs 0 5 (codes "N9") (dates Two) h in
+with_references : {X : Type 0} (f : X → List ℕ) (xs : List X) → IsWord (references Today) (map f xs) → Headed f xs
+with_references f xs h = let t = times_word f xs 0 5 (codes "N9") (dates Today) h in
     more_header f xs (codes "N9") (inr (inl refl)) t.0 t.1 t.2 t.3 (with_dates f t.1 t.4)
 
-with_parties : {X : Type 0} (f : X → List ℕ) (xs : List X) → IsWord (Then (Times 0 5 (One (codes "N1"))) (references Two)) (map f xs) → Headed f xs
-with_parties f xs h = let t = times_word f xs 0 5 (codes "N1") (references Two) h in
+with_parties : {X : Type 0} (f : X → List ℕ) (xs : List X) → IsWord (Then (Times 0 5 (One (codes "N1"))) (references Today)) (map f xs) → Headed f xs
+with_parties f xs h = let t = times_word f xs 0 5 (codes "N1") (references Today) h in
     more_header f xs (codes "N1") (inl refl) t.0 t.1 t.2 t.3 (with_references f t.1 t.4)
 
 built : {X : Type 0} (f : X → List ℕ) (xs : List X) (st w06 : X) (ys zs : List X) → xs ≡ st ∷ ys → f st ≡ codes "ST" → ys ≡ w06 ∷ zs → f w06 ≡ codes "W06"
@@ -151,15 +151,15 @@ built f xs st w06 ys zs a is_st b is_w06 hs rest c are_header (gs, w03, se, d, a
   is_se = is_se;
 }
 
-pub parse : {X : Type 0} (f : X → List ℕ) (xs : List X) → IsWord (words_943 Two) (map f xs) → Parsed f xs
-parse {X} f xs h = with_st (cons_word f xs (codes "ST") (Then (One (codes "W06")) (Then (Times 0 5 (One (codes "N1"))) (references Two))) h)
+pub parse : {X : Type 0} (f : X → List ℕ) (xs : List X) → IsWord (words_943 Today) (map f xs) → Parsed f xs
+parse {X} f xs h = with_st (cons_word f xs (codes "ST") (Then (One (codes "W06")) (Then (Times 0 5 (One (codes "N1"))) (references Today))) h)
   where
     with_header : (st w06 : X) (ys zs : List X) → xs ≡ st ∷ ys → f st ≡ codes "ST" → ys ≡ w06 ∷ zs → f w06 ≡ codes "W06" → Headed f zs → Parsed f xs
     with_header st w06 ys zs a p b q (hs, rest, c, all, w) = built f xs st w06 ys zs a p b q hs rest c all (lined f rest w)
 
     with_w06 : (st : X) (ys : List X) → xs ≡ st ∷ ys → f st ≡ codes "ST"
-        → (x : X) × (zs : List X) × (ys ≡ x ∷ zs) × (f x ≡ codes "W06") × IsWord (Then (Times 0 5 (One (codes "N1"))) (references Two)) (map f zs) → Parsed f xs
+        → (x : X) × (zs : List X) × (ys ≡ x ∷ zs) × (f x ≡ codes "W06") × IsWord (Then (Times 0 5 (One (codes "N1"))) (references Today)) (map f zs) → Parsed f xs
     with_w06 st ys a p (x, zs, b, q, w) = with_header st x ys zs a p b q (with_parties f zs w)
 
-    with_st : (x : X) × (ys : List X) × (xs ≡ x ∷ ys) × (f x ≡ codes "ST") × IsWord (Then (One (codes "W06")) (Then (Times 0 5 (One (codes "N1"))) (references Two))) (map f ys) → Parsed f xs
-    with_st (x, ys, a, p, w) = with_w06 x ys a p (cons_word f ys (codes "W06") (Then (Times 0 5 (One (codes "N1"))) (references Two)) w)
+    with_st : (x : X) × (ys : List X) × (xs ≡ x ∷ ys) × (f x ≡ codes "ST") × IsWord (Then (One (codes "W06")) (Then (Times 0 5 (One (codes "N1"))) (references Today))) (map f ys) → Parsed f xs
+    with_st (x, ys, a, p, w) = with_w06 x ys a p (cons_word f ys (codes "W06") (Then (Times 0 5 (One (codes "N1"))) (references Today)) w)

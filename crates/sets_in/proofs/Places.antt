@@ -6,8 +6,8 @@ use Rattle.std.specs.Prelude.{codes, ◌||◌, filter, unwrap_or, slice_get, fin
 use Rattle.std.specs.List.{enumerate_from, take_while, position_or_len, after_first}
 use Rattle.std.proofs.lemmas.List.{drop_all}
 use Rattle.std.proofs.lemmas.List.Sums.{take_while-cons}
-use Rattle.profile.specs.Cut.{Segment, Piece, segments_of, segment_with, has_id, element}
-use Rattle.profile.specs.Means as meant
+use Rattle.definitions.specs.Cut.{Segment, Piece, segments_of, segment_with, has_id, element}
+use Rattle.definitions.specs.Means as meant
 use Rattle.sets_in.specs.Places.{places_from}
 
 -- the segment at a place, and those after it

@@ -7,13 +7,13 @@ use Rattle.std.specs.Prelude.{codes, if◌then◌else◌, unwrap_or, slice_get, 
 use Rattle.std.specs.List.{list_all, AllByRecursion}
 use Rattle.std.proofs.lemmas.Slice.Eq.{bytes_eq-Decides}
 use borrow.Author.Tests.{ltb-false}
-use Rattle.profile.specs.declared.rules.Rules.{Rules}
-use Rattle.profile.specs.Bytes.{Delims, is_digit}
-use Rattle.profile.specs.Lists.{or_else}
-use Rattle.profile.specs.Cut.{Segment, element, id_of, has_id, segment_with}
-use Rattle.profile.specs.Elements.{ElementRow, Kind, Quantity, Digits, Alphanumeric, element_fault, least_element_fault, faulty_element, must, goods_rows, quantity_digits, advice_total_digits, order_total_digits, ElementFault, takes}
-use Rattle.profile.specs.Words.{Words, has_word, words_after}
-use Rattle.profile.specs.Faults.{SetFault, fault_at, fault_from, inner_fault, place_fault, rows_after}
+use Rattle.definitions.specs.declared.rules.Rules.{Rules}
+use Rattle.definitions.specs.Bytes.{Delims, is_digit}
+use Rattle.definitions.specs.Lists.{or_else}
+use Rattle.definitions.specs.Cut.{Segment, element, id_of, has_id, segment_with}
+use Rattle.definitions.specs.Elements.{ElementRow, Kind, Quantity, Digits, Alphanumeric, element_fault, least_element_fault, faulty_element, must, goods_rows, quantity_digits, advice_total_digits, order_total_digits, ElementFault, takes}
+use Rattle.definitions.specs.Words.{Words, has_word, words_after}
+use Rattle.definitions.specs.Faults.{SetFault, fault_at, fault_from, inner_fault, place_fault, rows_after}
 use Rattle.sets_in.specs.Amounts.{IsAmount, HasAmount, HaveAmounts}
 
 -- no element of the segment is faulty, after some other

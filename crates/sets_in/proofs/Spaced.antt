@@ -4,7 +4,7 @@ use Rattle.std.specs.Borrow.{Bor}
 use Rattle.std.specs.Prelude.{filter, nat_lt}
 use Rattle.std.specs.List.{join_with_byte}
 use Rattle.std.proofs.lemmas.Bool.Decides.{nat_tests}
-use Rattle.profile.specs.Means.{spaced}
+use Rattle.definitions.specs.Means.{spaced}
 use Rattle.sets_in.specs.Spaced.{spaced_with}
 
 -- texts after a beginning

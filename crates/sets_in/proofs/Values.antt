@@ -1,6 +1,6 @@
 -- Values of few digits are small.
 use Rattle.std.proofs.Common.{ℕ, ◌^◌, ◌<◌, List}
-use Rattle.profile.specs.Bytes.{value}
+use Rattle.definitions.specs.Bytes.{value}
 use Rattle.segments.proofs.DigitsLemmas.{few_digits}
 use Rattle.sets_in.specs.Amounts.{IsAmount}
 

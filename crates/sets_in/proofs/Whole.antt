@@ -4,13 +4,13 @@ use Rattle.std.specs.Prelude.{codes, bytes_eq, slice_get, unwrap_or}
 use Rattle.std.proofs.Common.{inl, inr}
 use Rattle.std.specs.List.{AllByRecursion}
 use Rattle.std.proofs.lemmas.Slice.Eq.{bytes_eq-Decides}
-use Rattle.profile.specs.declared.rules.Rules.{Rules}
-use Rattle.profile.specs.declared.rules.Rules.TheVariants.{Two}
-use Rattle.profile.specs.Bytes.{Delims}
-use Rattle.profile.specs.Cut.{Segment, id_of, has_id, last_segment}
-use Rattle.profile.specs.Words.{Words, IsWord, has_word, is_viable, words_after, words_943}
-use Rattle.profile.specs.Faults.{fault_from}
-use Rattle.profile.proofs.WordsLaws.{viable_to}
+use Rattle.definitions.specs.declared.rules.Rules.{Rules}
+use Rattle.definitions.specs.Rules.{Today}
+use Rattle.definitions.specs.Bytes.{Delims}
+use Rattle.definitions.specs.Cut.{Segment, id_of, has_id, last_segment}
+use Rattle.definitions.specs.Words.{Words, IsWord, has_word, is_viable, words_after, words_943}
+use Rattle.definitions.specs.Faults.{fault_from}
+use Rattle.definitions.proofs.WordsLaws.{viable_to}
 use Rattle.sets_in.specs.Said.{IsAdviceHeader, in_pairs}
 use Rattle.sets_in.proofs.Sound.{from_parts}
 use Rattle.sets_in.proofs.Parse.{Parsed, parse}
@@ -72,8 +72,8 @@ pub map_same : (xs : Ids) → map (λ x. x) xs ≡ xs
 map_same [] = refl
 map_same (x ∷ xs) = ap (λ y. x ∷ y) (map_same xs)
 
-nothing_more : (ids more front : Ids) → ids ≡ front ++ codes "SE" ∷ [] → IsWord (words_943 Two) (ids ++ more) → more ≡ []
-nothing_more ids more front e w = by_parts (parse (λ x. x) (ids ++ more) (subst (IsWord (words_943 Two)) (sym (map_same (ids ++ more))) w))
+nothing_more : (ids more front : Ids) → ids ≡ front ++ codes "SE" ∷ [] → IsWord (words_943 Today) (ids ++ more) → more ≡ []
+nothing_more ids more front e w = by_parts (parse (λ x. x) (ids ++ more) (subst (IsWord (words_943 Today)) (sym (map_same (ids ++ more))) w))
   where
     by_parts : Parsed (λ x. x) (ids ++ more) → more ≡ []
     by_parts p =
@@ -90,9 +90,9 @@ nothing_more ids more front e w = by_parts (parse (λ x. x) (ids ++ more) (subst
         ∙ ap (λ y. p.st ∷ p.w06 ∷ y) (ap (λ y. p.header ++ y) (sym (append_assoc (in_pairs p.goods) (p.w03 ∷ []) (p.se ∷ []))) ∙ sym (append_assoc p.header (in_pairs p.goods ++ p.w03 ∷ []) (p.se ∷ []))) in
         once before front more p.se none (ap (λ y. y ++ more) (sym e) ∙ whole)
 
-pub whole_advice : (d : Delims) (ss : List Segment) → fault_from Two d (words_943 Two) (words_943 Two) [] 1 ss ≡ None → has_id (codes "SE") (last_segment ss) ≡ true → Parsed id_of ss
+pub whole_advice : (d : Delims) (ss : List Segment) → fault_from Today d (words_943 Today) (words_943 Today) [] 1 ss ≡ None → has_id (codes "SE") (last_segment ss) ≡ true → Parsed id_of ss
 whole_advice d ss h t =
-    let v = viable_to (words_943 Two) (map id_of ss) (viable Two d (words_943 Two) (words_943 Two) [] 1 ss refl h) in
+    let v = viable_to (words_943 Today) (map id_of ss) (viable Today d (words_943 Today) (words_943 Today) [] 1 ss refl h) in
     let e = ends ss t in
     let none : v.0 ≡ [] = nothing_more (map id_of ss) v.0 e.0 e.1 v.1 in
-    parse id_of ss (subst (IsWord (words_943 Two)) (append-nil (map id_of ss)) (subst (λ (m : Ids). IsWord (words_943 Two) (map id_of ss ++ m)) none v.1))
+    parse id_of ss (subst (IsWord (words_943 Today)) (append-nil (map id_of ss)) (subst (λ (m : Ids). IsWord (words_943 Today) (map id_of ss ++ m)) none v.1))

@@ -2,11 +2,11 @@
 -- rules 1 or 2.
 use Rattle.std.specs.Prelude.{◌≡◌, ◌≤◌, ℕ, List, true, length}
 use Rattle.std.specs.List.{list_all, AllByRecursion}
-use Rattle.profile.specs.declared.rules.Rules.TheVariants.{Two}
-use Rattle.profile.specs.Bytes.{is_digit}
-use Rattle.profile.specs.Cut.{Segment, element, has_id, segment_with, places_of}
-use Rattle.profile.specs.Limits.{most_lines}
-use Rattle.profile.specs.declared.widths.TheConstants.{QUANTITY_DIGITS_TWO}
+use Rattle.definitions.specs.Rules.{Today}
+use Rattle.definitions.specs.Bytes.{is_digit}
+use Rattle.definitions.specs.Cut.{Segment, element, has_id, segment_with, places_of}
+use Rattle.definitions.specs.Limits.{most_lines}
+use Rattle.definitions.specs.declared.widths.TheConstants.{QUANTITY_DIGITS_TWO}
 
 -- at most some digits, and nothing else
 pub record IsAmount (most : ℕ) (text : List ℕ) : Type 0 where
@@ -23,6 +23,6 @@ HaveAmounts id place most ss = AllByRecursion (HasAmount id place most) ss
 -- lines begin at the segments with an id, whose first element is a quantity; another has their sum,
 -- of at most some digits
 pub record IsCountable (line total : List ℕ) (most : ℕ) (ss : List Segment) : Type 0 where
-  pub few : length (places_of line ss) ≤ most_lines Two
+  pub few : length (places_of line ss) ≤ most_lines Today
   pub quantities : HaveAmounts line 1 QUANTITY_DIGITS_TWO ss
   pub sum : IsAmount most (element (segment_with total ss) 1)

@@ -1,7 +1,7 @@
 -- Places of segments after others.
 use Rattle.std.specs.Prelude.{ℕ, List, map, filter}
 use Rattle.std.specs.List.{enumerate_from}
-use Rattle.profile.specs.Cut.{Segment, has_id}
+use Rattle.definitions.specs.Cut.{Segment, has_id}
 
 -- the places of the segments with the id, where the first has the place n
 abbrev pub places_from : List ℕ → ℕ → List Segment → List ℕ

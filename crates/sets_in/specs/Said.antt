@@ -1,9 +1,9 @@
 -- What a shipment advice says, as a tree with its printer.
 use Rattle.std.specs.Prelude.{◌≡◌, ℕ, ◌+◌, ◌*◌, ◌⊎◌, List, [], ◌∷◌, ◌++◌, length, codes, Option, Some, None}
 use Rattle.std.specs.List.{AllByRecursion}
-use Rattle.profile.specs.Bytes.{value}
-use Rattle.profile.specs.Cut.{Segment, element, id_of}
-use Rattle.profile.specs.Means.{Advice, AdviceLine}
+use Rattle.definitions.specs.Bytes.{value}
+use Rattle.definitions.specs.Cut.{Segment, element, id_of}
+use Rattle.definitions.specs.Means.{Advice, AdviceLine}
 
 -- ST, W06, the header after it, W04 and N9 of each line, W03 and SE
 pub record AdviceSet : Type 0 where

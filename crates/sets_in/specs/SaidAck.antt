@@ -1,9 +1,9 @@
 -- What a functional acknowledgment says, as a tree with its printer.
 use Rattle.std.specs.Prelude.{◌≡◌, ℕ, ◌⊎◌, List, [], ◌∷◌, ◌++◌, bytes_eq, codes}
 use Rattle.std.specs.List.{AllByRecursion}
-use Rattle.profile.specs.Bytes.{value}
-use Rattle.profile.specs.Cut.{Segment, element, id_of}
-use Rattle.profile.specs.Means.{Acknowledgment}
+use Rattle.definitions.specs.Bytes.{value}
+use Rattle.definitions.specs.Cut.{Segment, element, id_of}
+use Rattle.definitions.specs.Means.{Acknowledgment}
 
 -- ST, AK1, what is told of sets, AK9 and SE
 pub record AckSet : Type 0 where

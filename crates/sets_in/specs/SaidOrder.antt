@@ -1,9 +1,9 @@
 -- What a shipping order says, as a tree with its printer.
 use Rattle.std.specs.Prelude.{◌≡◌, ℕ, ◌+◌, ◌⊎◌, List, [], ◌∷◌, ◌++◌, length, codes, find, flat_map, Option, IfSome, unwrap_or, option_map, option_to_list}
 use Rattle.std.specs.List.{AllByRecursion}
-use Rattle.profile.specs.Bytes.{value}
-use Rattle.profile.specs.Cut.{Segment, element, id_of}
-use Rattle.profile.specs.Means.{Order, OrderLine, Address, is_ship_to, spaced}
+use Rattle.definitions.specs.Bytes.{value}
+use Rattle.definitions.specs.Cut.{Segment, element, id_of}
+use Rattle.definitions.specs.Means.{Order, OrderLine, Address, is_ship_to, spaced}
 
 -- X stands for a segment, or for its id
 

@@ -1,8 +1,8 @@
 -- The trade faults that a set may be told, and the least of them.
 use Rattle.std.specs.Prelude.{◌≤◌, List, [], ◌∷◌, is_some, codes, Option, Some, None}
-use Rattle.profile.specs.Faults.{SetFault}
-use Rattle.profile.specs.Means.{Advice, Order}
-use Rattle.profile.specs.Events.{Event, trade_fault, fault_where, advice_under, order_under, expiry, repeated_pair, redated_pair, repeated_item, wrong_advice_total, wrong_order_total}
+use Rattle.definitions.specs.Faults.{SetFault}
+use Rattle.definitions.specs.Means.{Advice, Order}
+use Rattle.definitions.specs.Events.{Event, trade_fault, fault_where, advice_under, order_under, expiry, repeated_pair, redated_pair, repeated_item, wrong_advice_total, wrong_order_total}
 
 -- of an advice: its shipment number is known, a pair stood before, a pair has another expiry, W03
 -- isn't the sum

@@ -1,7 +1,7 @@
 ghost use Rattle.std.specs.Prelude.{◌≡◌, IfOk, codes};
-ghost use Rattle.profile.specs.Cut.{segments_of, segment_with, element};
-ghost use Rattle.profile.specs.Means as meant;
-ghost use Rattle.profile.specs.declared.set_kind.SetKind.TheVariants as kinds;
+ghost use Rattle.definitions.specs.Cut.{segments_of, segment_with, element};
+ghost use Rattle.definitions.specs.Means as meant;
+ghost use Rattle.definitions.specs.declared.set_kind.SetKind.TheVariants as kinds;
 ghost use Rattle.sets_in.specs.Amounts.{IsAmount};
 ghost use Rattle.sets_in.specs.SaidAck.{SaysAck};
 

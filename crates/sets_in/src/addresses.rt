@@ -1,7 +1,7 @@
 ghost use Rattle.std.specs.Prelude.{◌≡◌, ◌||◌, IfOk, codes, map};
 ghost use Rattle.std.specs.List.{take_while};
-ghost use Rattle.profile.specs.Cut.{segments_of, has_id};
-ghost use Rattle.profile.specs.Means as meant;
+ghost use Rattle.definitions.specs.Cut.{segments_of, has_id};
+ghost use Rattle.definitions.specs.Means as meant;
 ghost use Rattle.sets_in.specs.Spaced.{spaced_with};
 
 use crate::reading::{copied, element_with};

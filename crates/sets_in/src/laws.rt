@@ -1,9 +1,9 @@
 //! Laws of what sets say: nothing runs, each contract is a law.
 ghost use Rattle.std.specs.Prelude.{◌≡◌, List, Some};
-ghost use Rattle.profile.specs.Cut.{Segment};
-ghost use Rattle.profile.specs.Events.{Event, advice_fault, order_fault};
-ghost use Rattle.profile.specs.Faults.{SetFault};
-ghost use Rattle.profile.specs.Means.{Advice, Order};
+ghost use Rattle.definitions.specs.Cut.{Segment};
+ghost use Rattle.definitions.specs.Events.{Event, advice_fault, order_fault};
+ghost use Rattle.definitions.specs.Faults.{SetFault};
+ghost use Rattle.definitions.specs.Means.{Advice, Order};
 ghost use Rattle.sets_in.specs.Said.{SaysAdvice};
 ghost use Rattle.sets_in.specs.SaidOrder.{SaysOrder};
 ghost use Rattle.sets_in.specs.TradeFaults.{IsLeastOf, faults_of_advice, faults_of_order};

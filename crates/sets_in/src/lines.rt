@@ -1,5 +1,5 @@
 ghost use Rattle.std.specs.Prelude.{option_map};
-ghost use Rattle.profile.specs.Means.{Line as LineSaid, AdviceLine as AdviceLineSaid};
+ghost use Rattle.definitions.specs.Means.{Line as LineSaid, AdviceLine as AdviceLineSaid};
 
 use std::marker::Model;
 

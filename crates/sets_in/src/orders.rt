@@ -1,10 +1,10 @@
 ghost use Rattle.std.specs.Prelude.{◌≡◌, ◌≤◌, ◌<◌, ◌^◌, ◌-◌, IfOk, All, codes, map, length, option_map};
-ghost use Rattle.profile.specs.declared.rules.Rules.TheVariants.{Two};
-ghost use Rattle.profile.specs.Cut.{segments_of, places_of, element};
-ghost use Rattle.profile.specs.Limits.{most_quantity};
-ghost use Rattle.profile.specs.Means as meant;
-ghost use Rattle.profile.specs.declared.set_kind.SetKind.TheVariants as kinds;
-ghost use Rattle.profile.specs.declared.widths.TheConstants.{ORDER_TOTAL_DIGITS_TWO, QUANTITY_DIGITS_TWO};
+ghost use Rattle.definitions.specs.Rules.{Today};
+ghost use Rattle.definitions.specs.Cut.{segments_of, places_of, element};
+ghost use Rattle.definitions.specs.Limits.{most_quantity};
+ghost use Rattle.definitions.specs.Means as meant;
+ghost use Rattle.definitions.specs.declared.set_kind.SetKind.TheVariants as kinds;
+ghost use Rattle.definitions.specs.declared.widths.TheConstants.{ORDER_TOTAL_DIGITS_TWO, QUANTITY_DIGITS_TWO};
 ghost use Rattle.sets_in.specs.Amounts.{IsAmount, IsCountable, HaveAmounts};
 ghost use Rattle.sets_in.specs.SaidOrder.{SaysOrder};
 
@@ -55,7 +55,7 @@ fn order_line(
         (element (meant.segment_at (segments_of segments.now) position) 1) }
 
     ensures line { IfOk result (λ l. l ≡ meant.order_line (segments_of segments.now) position) }
-    ensures small { IfOk result (λ l. l.quantity ≤ most_quantity Two) }
+    ensures small { IfOk result (λ l. l.quantity ≤ most_quantity Today) }
 {
     let at = position as usize;
     let item = copied(alloc, element_at(segments, at, 5))?;
@@ -79,7 +79,7 @@ fn order_lines(alloc: Global, segments: &[Segment<'_>]) -> Result<Vec<OrderLine>
         (λ v. v.items ≡ map (meant.order_line (segments_of segments.now))
         (places_of (codes "W01") (segments_of segments.now))) }
     ensures small { IfOk result
-        (λ v. All (λ (l : meant.OrderLine). l.quantity ≤ most_quantity Two) v.items) }
+        (λ v. All (λ (l : meant.OrderLine). l.quantity ≤ most_quantity Today) v.items) }
 {
     let mut lines = Vec::new(alloc);
     for (index, segment) in segments.iter().enumerate() {

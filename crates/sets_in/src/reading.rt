@@ -1,7 +1,7 @@
 //! Looking segments and elements up.
 ghost use Rattle.std.specs.Prelude.{◌≡◌, ◌<◌, ◌^◌, ◌-◌, IfOk, length};
-ghost use Rattle.profile.specs.Cut.{segments_of, segment_with, element, has_id};
-ghost use Rattle.profile.specs.Means.{segment_at, place_of};
+ghost use Rattle.definitions.specs.Cut.{segments_of, segment_with, element, has_id};
+ghost use Rattle.definitions.specs.Means.{segment_at, place_of};
 
 use segments::Segment;
 use std::alloc::{AllocError, Global};

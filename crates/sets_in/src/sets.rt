@@ -1,5 +1,5 @@
 ghost use Rattle.std.specs.Prelude.{◌≡◌};
-ghost use Rattle.profile.specs.Means as meant;
+ghost use Rattle.definitions.specs.Means as meant;
 ghost use Rattle.sets_in.specs.Limits.{HasFewLines};
 
 use crate::lines::AdviceLine;

@@ -1,5 +1,5 @@
 ghost use Rattle.std.specs.Prelude.{◌≡◌, MatchOption, None, option_map};
-ghost use Rattle.profile.specs.Means as meant;
+ghost use Rattle.definitions.specs.Means as meant;
 ghost use Rattle.sets_in.specs.Limits.{HasFewOrderLines};
 
 use crate::sets::Address;

@@ -2,13 +2,13 @@
 use Rattle.std.proofs.Common.{◌≡◌, ℕ, ◌+◌, ◌<◌, ◌≤◌, List, [], ◌∷◌, ◌++◌, length, take, get_or, map, refl, sym, subst, ◌∙◌, append_assoc, arith, length-append, false}
 use Rattle.std.proofs.lemmas.List.{append-nil, length-map, take_all, take_more, map_more}
 use Rattle.std.proofs.lemmas.Grind.{flat_map-append}
-use Rattle.profile.specs.Bytes.{Delims}
-use Rattle.profile.specs.Cut.{Segment, spelled}
+use Rattle.definitions.specs.Bytes.{Delims}
+use Rattle.definitions.specs.Cut.{Segment, spelled}
 use Rattle.std.specs.Prelude.{codes, decimal, flat_map, ◌==◌}
-use Rattle.profile.specs.Bytes.{zero_filled}
-use Rattle.profile.specs.Header.{Who}
-use Rattle.profile.specs.Moments.{Moment, date8, time4}
-use Rattle.profile.specs.Texts.{Receiver, Told, body_997, set_of_segments, sets_of_segments, group_of_sets, isa_segment, interchange}
+use Rattle.definitions.specs.Bytes.{zero_filled}
+use Rattle.definitions.specs.Header.{Who}
+use Rattle.definitions.specs.Moments.{Moment, date8, time4}
+use Rattle.definitions.specs.Texts.{Receiver, Told, body_997, set_of_segments, sets_of_segments, group_of_sets, isa_segment, interchange}
 use Rattle.segments.specs.Extends.{Extends}
 use Rattle.segments.proofs.ExtendsLemmas.{extends_append}
 use Rattle.sets_out.specs.Appends.{Writes}

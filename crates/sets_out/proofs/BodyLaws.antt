@@ -4,12 +4,12 @@ use Rattle.std.specs.Prelude.{◌==◌, if◌then◌else◌, codes, decimal, fil
 use Rattle.std.specs.List.{enumerate_from}
 use Rattle.std.proofs.lemmas.List.Folds.{flat_map-map}
 use Rattle.std.proofs.lemmas.Simd.{map-map}
-use Rattle.profile.specs.Cut.{Segment}
-use Rattle.profile.specs.Lists.{in_order}
-use Rattle.profile.specs.Moments.{Moment, date8}
-use Rattle.profile.specs.Means.{Line, Advice, advised, OrderLine, Order}
-use Rattle.profile.specs.Events.{pair_before, quantity_of}
-use Rattle.profile.specs.Texts.{body_944, body_945, body_947, line_945, total_of, goods}
+use Rattle.definitions.specs.Cut.{Segment}
+use Rattle.definitions.specs.Lists.{in_order}
+use Rattle.definitions.specs.Moments.{Moment, date8}
+use Rattle.definitions.specs.Means.{Line, Advice, advised, OrderLine, Order}
+use Rattle.definitions.specs.Events.{pair_before, quantity_of}
+use Rattle.definitions.specs.Texts.{body_944, body_945, body_947, line_945, total_of, goods}
 use Rattle.sets_out.specs.Documents.{PickedLot, shipped_lot, shipped_line, received_line, changed_line, adjusted_line, receipt_body, receipt_for, shipment_body, shipment_for, shipped_for, lots_for, adjustment_body, adjusted_for}
 
 pub body_944-for : (t : Moment) (n : ℕ) (a : Advice) (sheet : List Line) → body_944 t n a sheet ≡ receipt_body t n (receipt_for a sheet)

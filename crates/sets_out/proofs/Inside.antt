@@ -5,13 +5,13 @@ use Rattle.std.specs.Fmt.{digits, digits_onto, digit_glyph}
 use Rattle.std.specs.List.{list_all}
 use Rattle.std.specs.Cmp.Derive.{both_true}
 use Rattle.std.proofs.lemmas.Bool.Decides.{nat_tests}
-use Rattle.profile.specs.Bytes.{Delims, is_digit, is_identifier_byte, is_data, is_space, padded, zero_filled}
-use Rattle.profile.specs.Cut.{is_inside}
-use Rattle.profile.specs.Header.{is_delimiter, are_delimiters}
-use Rattle.profile.specs.Moments.{Moment, date6, date8, time4}
-use Rattle.profile.specs.Texts.{own_delims, difference}
-use Rattle.profile.proofs.TextLaws.{both_parts, differs, all_in, all_both, between}
-use Rattle.profile.proofs.WrittenLaws.{data_inside}
+use Rattle.definitions.specs.Bytes.{Delims, is_digit, is_identifier_byte, is_data, is_space, padded, zero_filled}
+use Rattle.definitions.specs.Cut.{is_inside}
+use Rattle.definitions.specs.Header.{is_delimiter, are_delimiters}
+use Rattle.definitions.specs.Moments.{Moment, date6, date8, time4}
+use Rattle.definitions.specs.Texts.{own_delims, difference}
+use Rattle.definitions.proofs.TextLaws.{both_parts, differs, all_in, all_both, between}
+use Rattle.definitions.proofs.WrittenLaws.{data_inside}
 use Rattle.sets_out.specs.Inside.{IsInside, IsOwn}
 
 -- identifier bytes and spaces, which are no delimiters

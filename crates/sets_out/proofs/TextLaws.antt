@@ -3,12 +3,12 @@ use Rattle.std.proofs.Common.{◌≡◌, ℕ, List, [], ◌∷◌, ◌++◌, map
 use Rattle.std.specs.Prelude.{◌==◌, if◌then◌else◌, codes, bytes_eq, Option}
 use Rattle.std.proofs.Math.Dec.{eqb-suc-zero}
 use Rattle.std.proofs.lemmas.Simd.{map-map}
-use Rattle.profile.specs.Bytes.{Delims}
-use Rattle.profile.specs.Cut.{Segment}
-use Rattle.profile.specs.Moments.{Moment}
-use Rattle.profile.specs.Header.{Who, isa, delims_of}
-use Rattle.profile.specs.History.{Telling}
-use Rattle.profile.specs.Texts.{Told, answer, answered, told_of, ta1, body_997, group_of_sets, interchange, receiver_of}
+use Rattle.definitions.specs.Bytes.{Delims}
+use Rattle.definitions.specs.Cut.{Segment}
+use Rattle.definitions.specs.Moments.{Moment}
+use Rattle.definitions.specs.Header.{Who, isa, delims_of}
+use Rattle.definitions.specs.History.{Telling}
+use Rattle.definitions.specs.Texts.{Told, answer, answered, told_of, ta1, body_997, group_of_sets, interchange, receiver_of}
 use Rattle.sets_out.specs.Headings.{heading_of, ta1_of}
 use Rattle.sets_out.specs.Interchanges.{answer_of, answers_group, groups_for}
 

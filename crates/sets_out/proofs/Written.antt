@@ -4,12 +4,12 @@ use Rattle.std.proofs.Common.{◌≡◌, ℕ, ◌+◌, true, false, List, [], �
 use Rattle.std.specs.Prelude.{codes, decimal, ◌||◌, ◌==◌, IsTrue, flat_map}
 use Rattle.std.specs.List.{list_all, AllByRecursion, enumerate_from}
 use Rattle.std.specs.Cmp.Derive.{both_true}
-use Rattle.profile.specs.Bytes.{Delims, is_line_end, is_identifier_byte, is_alphanumeric, zero_filled}
-use Rattle.profile.specs.Cut.{Segment, IsWritten, is_inside}
-use Rattle.profile.specs.Header.{Who, is_partner, are_delimiters}
-use Rattle.profile.specs.Moments.{Moment, date8, time4}
-use Rattle.profile.specs.Texts.{set_of_segments, sets_of_segments, group_of_sets}
-use Rattle.profile.proofs.TextLaws.{both_parts, all_in}
+use Rattle.definitions.specs.Bytes.{Delims, is_line_end, is_identifier_byte, is_alphanumeric, zero_filled}
+use Rattle.definitions.specs.Cut.{Segment, IsWritten, is_inside}
+use Rattle.definitions.specs.Header.{Who, is_partner, are_delimiters}
+use Rattle.definitions.specs.Moments.{Moment, date8, time4}
+use Rattle.definitions.specs.Texts.{set_of_segments, sets_of_segments, group_of_sets}
+use Rattle.definitions.proofs.TextLaws.{both_parts, all_in}
 use Rattle.sets_out.specs.Headings.{Heading, ta1_of}
 use Rattle.sets_out.specs.Inside.{IsInside, IsHeadingInside}
 use Rattle.sets_out.proofs.Inside.{is_plain, inside_plain, inside_identifier, inside_decimal, inside_zero_filled, inside_date8, inside_time4}

@@ -3,16 +3,16 @@
 use Rattle.std.proofs.Common.{◌≡◌, ℕ, ◌-◌, Bool, true, false, List, [], ◌∷◌, refl, Option, Some, None, option_map}
 use Rattle.std.specs.Prelude.{codes, decimal, ◌==◌, if◌then◌else◌, IfSome, flat_map, option_to_list}
 use Rattle.std.specs.List.{AllByRecursion, enumerate_from}
-use Rattle.profile.specs.Bytes.{Delims}
-use Rattle.profile.specs.Cut.{IsWritten}
-use Rattle.profile.specs.Header.{are_delimiters}
-use Rattle.profile.specs.Moments.{Moment, date8}
-use Rattle.profile.specs.Elements.{ElementFault}
-use Rattle.profile.specs.Faults.{SetFault}
-use Rattle.profile.specs.History.{Rejection}
-use Rattle.profile.specs.Means.{Line}
-use Rattle.profile.specs.Lists.{first_of}
-use Rattle.profile.specs.Texts.{own_delims, ToldSet, Told, accepted_sets, ak3_segments, ak4_segments, ak5_segments, told_segments, body_997, goods, difference}
+use Rattle.definitions.specs.Bytes.{Delims}
+use Rattle.definitions.specs.Cut.{IsWritten}
+use Rattle.definitions.specs.Header.{are_delimiters}
+use Rattle.definitions.specs.Moments.{Moment, date8}
+use Rattle.definitions.specs.Elements.{ElementFault}
+use Rattle.definitions.specs.Faults.{SetFault}
+use Rattle.definitions.specs.History.{Rejection}
+use Rattle.definitions.specs.Means.{Line}
+use Rattle.definitions.specs.Lists.{first_of}
+use Rattle.definitions.specs.Texts.{own_delims, ToldSet, Told, accepted_sets, ak3_segments, ak4_segments, ak5_segments, told_segments, body_997, goods, difference}
 use Rattle.sets_out.specs.Documents.{PickedLot, ShippedLine, AdjustedLine, Receipt, Shipment, lot_of, received_line, receipt_body, shipped_lot, shipped_line, shipment_body, adjusted_line, changed_line, adjustment_body}
 use Rattle.sets_out.specs.Inside.{IsInside, IsSetInside, IsToldInside, IsOwn, IsLineOwn, IsReceiptOwn, IsShippedOwn, IsShipmentOwn, IsAdjustedOwn}
 use Rattle.sets_out.proofs.Inside.{inside_date8, inside_difference}

@@ -6,14 +6,14 @@ use Rattle.std.specs.List.{AllByRecursion}
 use Rattle.std.specs.Cmp.Derive.{both_true}
 use Rattle.std.proofs.lemmas.Bool.Decides.{nat_tests}
 use Rattle.std.proofs.lemmas.List.{append-nil}
-use Rattle.profile.specs.Limits.{most_partner}
-use Rattle.profile.specs.Bytes.{Delims, padded, zero_filled}
-use Rattle.profile.specs.Cut.{Segment, IsWritten, cut, spelled}
-use Rattle.profile.proofs.CutUniqueLaws.{written_again}
-use Rattle.profile.specs.Header.{Who, are_delimiters}
-use Rattle.profile.specs.Moments.{Moment, date6, time4}
-use Rattle.profile.specs.Texts.{own_delims, Receiver, receiver_of, Told, body_997, group_of_sets, isa_segment, set_of_segments}
-use Rattle.profile.proofs.TextLaws.{both_parts}
+use Rattle.definitions.specs.Limits.{most_partner}
+use Rattle.definitions.specs.Bytes.{Delims, padded, zero_filled}
+use Rattle.definitions.specs.Cut.{Segment, IsWritten, cut, spelled}
+use Rattle.definitions.proofs.CutUniqueLaws.{written_again}
+use Rattle.definitions.specs.Header.{Who, are_delimiters}
+use Rattle.definitions.specs.Moments.{Moment, date6, time4}
+use Rattle.definitions.specs.Texts.{own_delims, Receiver, receiver_of, Told, body_997, group_of_sets, isa_segment, set_of_segments}
+use Rattle.definitions.proofs.TextLaws.{both_parts}
 use Rattle.sets_out.specs.Handed.{receipt_of, shipment_of, function_of, number_of, body_of}
 use Rattle.sets_out.specs.declared.sheets.Document.{Document}
 use Rattle.sets_out.specs.declared.sheets.Document.TheVariants.{Received, Shipped, Adjusted}

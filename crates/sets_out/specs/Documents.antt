@@ -1,12 +1,12 @@
 -- The bodies of documents, without ST and SE, from what they are written from.
 use Rattle.std.specs.Prelude.{ℕ, ◌-◌, List, [], ◌∷◌, ◌++◌, map, if◌then◌else◌, ◌==◌, codes, bytes_eq, decimal, filter, flat_map}
 use Rattle.std.specs.List.{enumerate_from}
-use Rattle.profile.specs.Cut.{Segment}
-use Rattle.profile.specs.Moments.{Moment, date8}
-use Rattle.profile.specs.Lists.{in_order}
-use Rattle.profile.specs.Means.{Line, Advice, advised, OrderLine, Order}
-use Rattle.profile.specs.Events.{pair_before, quantity_of}
-use Rattle.profile.specs.Texts.{goods, difference, total_of}
+use Rattle.definitions.specs.Cut.{Segment}
+use Rattle.definitions.specs.Moments.{Moment, date8}
+use Rattle.definitions.specs.Lists.{in_order}
+use Rattle.definitions.specs.Means.{Line, Advice, advised, OrderLine, Order}
+use Rattle.definitions.specs.Events.{pair_before, quantity_of}
+use Rattle.definitions.specs.Texts.{goods, difference, total_of}
 
 abbrev pub lot_of : List ℕ → Segment
 lot_of lot = codes "N9" ∷ codes "LT" ∷ lot ∷ []

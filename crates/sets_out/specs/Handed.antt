@@ -1,7 +1,7 @@
 -- What is handed over, as the definitions see it.
 use Rattle.std.specs.Prelude.{ℕ, List, codes}
-use Rattle.profile.specs.Cut.{Segment}
-use Rattle.profile.specs.Moments.{Moment}
+use Rattle.definitions.specs.Cut.{Segment}
+use Rattle.definitions.specs.Moments.{Moment}
 use Rattle.sets_out.specs.Documents as meant
 use Rattle.sets_out.specs.declared.sheets.Document.{Document}
 use Rattle.sets_out.specs.declared.sheets.Document.TheVariants.{Received, Shipped, Adjusted}

@@ -1,9 +1,9 @@
 -- What an answer repeats of the ISA of the interchange that it answers, and what is written from
 -- that.
 use Rattle.std.specs.Prelude.{ℕ, Bool, List, [], ◌∷◌, codes, bytes_eq, Option, Some, None}
-use Rattle.profile.specs.Bytes.{zero_filled}
-use Rattle.profile.specs.Cut.{Segment}
-use Rattle.profile.specs.Header.{isa}
+use Rattle.definitions.specs.Bytes.{zero_filled}
+use Rattle.definitions.specs.Cut.{Segment}
+use Rattle.definitions.specs.Header.{isa}
 
 pub record Heading : Type 0 where
   -- ISA05 and ISA06, ISA09 and ISA10, ISA13

@@ -1,10 +1,10 @@
 -- What may be handed over so that what is written of it is cut again.
 use Rattle.std.specs.Prelude.{◌≡◌, List, [], ℕ, IsTrue, IfSome}
 use Rattle.std.specs.List.{list_all, AllByRecursion}
-use Rattle.profile.specs.Bytes.{Delims}
-use Rattle.profile.specs.Cut.{Segment, is_inside, cut}
-use Rattle.profile.specs.Means.{Line}
-use Rattle.profile.specs.Texts.{ToldSet, Told, own_delims, text_of}
+use Rattle.definitions.specs.Bytes.{Delims}
+use Rattle.definitions.specs.Cut.{Segment, is_inside, cut}
+use Rattle.definitions.specs.Means.{Line}
+use Rattle.definitions.specs.Texts.{ToldSet, Told, own_delims, text_of}
 use Rattle.sets_out.specs.Handed.{receipt_of, shipment_of}
 use Rattle.sets_out.specs.Headings.{Heading}
 use Rattle.sets_out.specs.Documents.{ShippedLine, AdjustedLine, Receipt, Shipment}

@@ -1,10 +1,10 @@
 -- The texts of interchanges, from what they are written from.
 use Rattle.std.specs.Prelude.{ℕ, Bool, List, [], ◌∷◌, ◌++◌, length, map, if◌then◌else◌, ◌==◌, Some, None, codes, decimal}
-use Rattle.profile.specs.Bytes.{Delims, zero_filled}
-use Rattle.profile.specs.Cut.{Segment}
-use Rattle.profile.specs.Moments.{Moment}
-use Rattle.profile.specs.Header.{Who}
-use Rattle.profile.specs.Texts.{Receiver, Told, isa_segment, body_997, document_text, group_of_sets, interchange, receiver_of}
+use Rattle.definitions.specs.Bytes.{Delims, zero_filled}
+use Rattle.definitions.specs.Cut.{Segment}
+use Rattle.definitions.specs.Moments.{Moment}
+use Rattle.definitions.specs.Header.{Who}
+use Rattle.definitions.specs.Texts.{Receiver, Told, isa_segment, body_997, document_text, group_of_sets, interchange, receiver_of}
 use Rattle.sets_out.specs.Headings.{Heading, ta1_of}
 use Rattle.sets_out.specs.Handed.{function_of, number_of, body_of}
 use Rattle.sets_out.specs.declared.envelopes.Envelope.{Envelope}

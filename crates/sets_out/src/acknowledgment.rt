@@ -1,6 +1,6 @@
 ghost use Rattle.std.specs.Prelude.{◌≡◌, ◌==◌, ◌++◌, ◌∷◌, [], codes, decimal, flat_map, count_by, is_none, option_map, option_to_list, IfOk, OnOk, OnErr, ◌+◌};
-ghost use Rattle.profile.specs.Lists.{first_of};
-ghost use Rattle.profile.specs.Texts.{ak3_segments, ak4_segments, ak5_segments, ak901, accepted_sets, told_segments, body_997, set_of_segments, text_of};
+ghost use Rattle.definitions.specs.Lists.{first_of};
+ghost use Rattle.definitions.specs.Texts.{ak3_segments, ak4_segments, ak5_segments, ak901, accepted_sets, told_segments, body_997, set_of_segments, text_of};
 ghost use Rattle.segments.specs.Extends.{Extends};
 ghost use Rattle.sets_out.specs.Appends.{Writes};
 

@@ -1,5 +1,5 @@
 ghost use Rattle.std.specs.Prelude.{◌≡◌, ◌≤◌, ◌+◌, ◌++◌, ◌∷◌, [], codes, decimal, length, take, flat_map, IfOk};
-ghost use Rattle.profile.specs.Texts.{difference, goods};
+ghost use Rattle.definitions.specs.Texts.{difference, goods};
 ghost use Rattle.segments.specs.Extends.{Extends};
 ghost use Rattle.sets_out.specs.Appends.{Writes};
 ghost use Rattle.sets_out.specs.Documents.{changed_line, adjustment_body};

@@ -1,5 +1,5 @@
 ghost use Rattle.std.specs.Prelude.{◌≡◌, ◌++◌, ◌∷◌, [], codes, IfOk, OnOk, OnErr};
-ghost use Rattle.profile.specs.Texts.{document_text, group_of_sets, own_delims, set_of_segments, text_of};
+ghost use Rattle.definitions.specs.Texts.{document_text, group_of_sets, own_delims, set_of_segments, text_of};
 ghost use Rattle.segments.specs.Extends.{Extends};
 ghost use Rattle.sets_out.specs.Appends.{Writes};
 ghost use Rattle.sets_out.specs.Documents.{receipt_body, shipment_body, adjustment_body};

@@ -1,16 +1,16 @@
 ghost use Rattle.std.specs.Prelude.{◌≡◌, ◌+◌, ◌-◌, ◌++◌, ◌∷◌, [], codes, decimal, replicate, flat_map, length, OnOk, IfOk};
-ghost use Rattle.profile.specs.Bytes.{padded, zero_filled};
-ghost use Rattle.profile.specs.declared.widths.TheConstants as widths;
-ghost use Rattle.profile.specs.Limits.{most_partner};
-ghost use Rattle.profile.specs.Cut.{joined};
-ghost use Rattle.profile.specs.Moments.{date6, date8, time4};
-ghost use Rattle.profile.specs.Texts.{Receiver, receiver_of, isa_segment};
+ghost use Rattle.definitions.specs.Bytes.{padded, zero_filled};
+ghost use Rattle.definitions.specs.declared.widths.TheConstants as widths;
+ghost use Rattle.definitions.specs.Limits.{most_partner};
+ghost use Rattle.definitions.specs.Cut.{joined};
+ghost use Rattle.definitions.specs.Moments.{date6, date8, time4};
+ghost use Rattle.definitions.specs.Texts.{Receiver, receiver_of, isa_segment};
 ghost use Rattle.segments.specs.Extends.{Extends};
 ghost use Rattle.sets_out.specs.Appends.{Writes};
 
 use crate::writing::append_segment;
+use definitions::{BLANK_BYTES, CONTROL_DIGITS, LEAST_SET_CONTROL, MOST_PARTNER, zero_filled};
 use itoa::Buffer;
-use profile::{BLANK_BYTES, CONTROL_DIGITS, LEAST_SET_CONTROL, MOST_PARTNER, zero_filled};
 use segments::{Delims, Moment, Who, append_parts, write_segment};
 use std::alloc::AllocError;
 use std::marker::Model;

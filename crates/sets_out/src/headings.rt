@@ -1,11 +1,11 @@
 ghost use Rattle.std.specs.Prelude.{IfOk, OnOk, OnErr, ◌≡◌, ◌++◌, ◌∷◌, []};
-ghost use Rattle.profile.specs.Cut.{spelled};
+ghost use Rattle.definitions.specs.Cut.{spelled};
 ghost use Rattle.segments.specs.Extends.{Extends};
 ghost use Rattle.sets_out.specs.Appends.{Writes};
 ghost use Rattle.sets_out.specs.Headings.{Heading as Meant, ta1_of};
 
 use crate::writing::append_segment;
-use profile::{NOTE_DIGITS, zero_filled};
+use definitions::{NOTE_DIGITS, zero_filled};
 use segments::{Delims, write_segment};
 use std::alloc::AllocError;
 use std::marker::Model;

@@ -1,5 +1,5 @@
 ghost use Rattle.std.specs.Prelude.{◌≡◌, ◌++◌, codes, map, OnOk, OnErr, IfOk, Some};
-ghost use Rattle.profile.specs.Texts.{body_997, interchange, sets_of_segments};
+ghost use Rattle.definitions.specs.Texts.{body_997, interchange, sets_of_segments};
 ghost use Rattle.segments.specs.Extends.{Extends};
 ghost use Rattle.sets_out.specs.Appends.{Writes};
 ghost use Rattle.sets_out.specs.Interchanges.{acknowledged, answers_group, between, groups_for, is_silence, whole_answer, answer_text, refusal_text, interchange_text};

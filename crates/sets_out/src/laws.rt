@@ -1,13 +1,13 @@
 //! Laws of the layouts: nothing runs, each contract is a law.
 ghost use Rattle.std.specs.Prelude.{◌≡◌, ◌∷◌, [], ℕ, true, List, Option, Some, codes, map};
 ghost use Rattle.std.specs.List.{list_all, AllByRecursion};
-ghost use Rattle.profile.specs.Bytes.{Delims, is_data};
-ghost use Rattle.profile.specs.Cut.{cut, spelled};
-ghost use Rattle.profile.specs.Means.{Advice, Line, Order};
-ghost use Rattle.profile.specs.Moments.{Moment};
-ghost use Rattle.profile.specs.Header.{Who, is_partner, delims_of, are_delimiters};
-ghost use Rattle.profile.specs.History.{Telling};
-ghost use Rattle.profile.specs.Texts.{Told, own_delims, answer, answered, body_944, body_945, body_947, body_997, group_of_sets, receiver_of, refusal_interchange, set_of_segments, ta1, told_of};
+ghost use Rattle.definitions.specs.Bytes.{Delims, is_data};
+ghost use Rattle.definitions.specs.Cut.{cut, spelled};
+ghost use Rattle.definitions.specs.Means.{Advice, Line, Order};
+ghost use Rattle.definitions.specs.Moments.{Moment};
+ghost use Rattle.definitions.specs.Header.{Who, is_partner, delims_of, are_delimiters};
+ghost use Rattle.definitions.specs.History.{Telling};
+ghost use Rattle.definitions.specs.Texts.{Told, own_delims, answer, answered, body_944, body_945, body_947, body_997, group_of_sets, receiver_of, refusal_interchange, set_of_segments, ta1, told_of};
 ghost use Rattle.sets_out.specs.Documents.{AdjustedLine, Receipt, Shipment, adjusted_for, adjustment_body, receipt_body, receipt_for, shipment_body, shipment_for};
 ghost use Rattle.sets_out.specs.Handed.{function_of, number_of, body_of};
 ghost use Rattle.sets_out.specs.Headings.{Heading, heading_of, ta1_of};

@@ -1,5 +1,5 @@
 ghost use Rattle.std.specs.Prelude.{◌∷◌, [], codes, decimal, flat_map, IfOk};
-ghost use Rattle.profile.specs.Moments.{date8};
+ghost use Rattle.definitions.specs.Moments.{date8};
 ghost use Rattle.segments.specs.Extends.{Extends};
 ghost use Rattle.sets_out.specs.Appends.{Writes};
 ghost use Rattle.sets_out.specs.Documents.{received_line, receipt_body};

@@ -1,4 +1,4 @@
-ghost use Rattle.profile.specs.Means.{Line as MeantLine};
+ghost use Rattle.definitions.specs.Means.{Line as MeantLine};
 ghost use Rattle.sets_out.specs.Documents.{PickedLot as MeantLot, ShippedLine as MeantShipped, AdjustedLine as MeantAdjusted};
 
 use std::marker::Model;

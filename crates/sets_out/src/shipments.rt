@@ -1,7 +1,7 @@
 ghost use Rattle.std.specs.Prelude.{◌≡◌, ◌-◌, ◌==◌, ◌∷◌, [], if◌then◌else◌, codes, decimal, flat_map, map, IfOk};
 ghost use Rattle.std.specs.List.{enumerate_from};
-ghost use Rattle.profile.specs.Moments.{date8};
-ghost use Rattle.profile.specs.Texts.{goods};
+ghost use Rattle.definitions.specs.Moments.{date8};
+ghost use Rattle.definitions.specs.Texts.{goods};
 ghost use Rattle.segments.specs.Extends.{Extends};
 ghost use Rattle.sets_out.specs.Appends.{Writes};
 ghost use Rattle.sets_out.specs.Documents.{shipped_lot, shipped_line, shipment_body};

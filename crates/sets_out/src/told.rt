@@ -1,5 +1,5 @@
-ghost use Rattle.profile.specs.History.{Rejection as MeantRejection};
-ghost use Rattle.profile.specs.Texts.{ToldSet as MeantSet, Told as Meant};
+ghost use Rattle.definitions.specs.History.{Rejection as MeantRejection};
+ghost use Rattle.definitions.specs.Texts.{ToldSet as MeantSet, Told as Meant};
 
 use segments::SetFault;
 use std::marker::Model;

@@ -4,11 +4,11 @@ use Rattle.std.specs.Prelude.{nat_lt, is_none}
 use Rattle.std.specs.List.{filter_map, list_any}
 use Rattle.std.proofs.Common.{lt-ltb, ltb-true}
 use Rattle.std.proofs.lemmas.List.{append-nil, drop_all, length-take, take_all}
-use Rattle.profile.specs.declared.rules.Rules.{Rules}
-use Rattle.profile.specs.Limits.{most_lines}
-use Rattle.profile.specs.Clerk.{RawLine, raw_line, sheet_of, sheet_of_records}
-use Rattle.profile.specs.declared.sheet_kind.SheetKind.{SheetKind}
-use Rattle.profile.specs.declared.refusals.Refusal.TheVariants.{TooManyLines, BadText}
+use Rattle.definitions.specs.declared.rules.Rules.{Rules}
+use Rattle.definitions.specs.Limits.{most_lines}
+use Rattle.definitions.specs.Clerk.{RawLine, raw_line, sheet_of, sheet_of_records}
+use Rattle.definitions.specs.declared.sheet_kind.SheetKind.{SheetKind}
+use Rattle.definitions.specs.declared.refusals.Refusal.TheVariants.{TooManyLines, BadText}
 use Rattle.csv.specs.Records.{Row, field_at, fields_of}
 use Rattle.sheet_texts.specs.Texts.{field_of}
 

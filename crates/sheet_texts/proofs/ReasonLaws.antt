@@ -5,8 +5,8 @@ use Rattle.std.specs.List.{list_any}
 use Rattle.std.specs.Option.{option_or}
 use Rattle.std.proofs.lemmas.List.{append-nil}
 use Rattle.std.proofs.lemmas.List.Folds.{find-append}
-use Rattle.profile.specs.declared.sheet_kind.SheetKind.{SheetKind}
-use Rattle.profile.specs.declared.refusals.Refusal.{Refusal}
+use Rattle.definitions.specs.declared.sheet_kind.SheetKind.{SheetKind}
+use Rattle.definitions.specs.declared.refusals.Refusal.{Refusal}
 use Rattle.sheet_texts.specs.Reasons.{each_after, first_reason, is_reason, reason_text, where_so}
 
 -- Lists.

@@ -4,19 +4,19 @@ use Rattle.std.specs.Prelude.{is_none, is_some, nat_lt, not, ◌&&◌, ◌==◌}
 use Rattle.std.specs.List.{list_any, list_all, filter_map}
 use Rattle.std.proofs.lemmas.Bool.{not-false}
 use Rattle.std.proofs.lemmas.List.{length-take, length-append, length-map, take_all}
-use Rattle.profile.specs.declared.rules.Rules.TheVariants.{Two}
-use Rattle.profile.specs.declared.widths.TheConstants.{SHEET_DIGITS}
-use Rattle.profile.specs.Bytes.{is_identifier, is_number, is_digit, value}
-use Rattle.profile.specs.Limits.{most_lines, most_item, most_lot, most_recounted}
-use Rattle.profile.specs.Lists.{has_repeats, in_order}
-use Rattle.profile.specs.Events.{pair_before}
-use Rattle.profile.specs.Means.{Line}
-use Rattle.profile.specs.declared.refusals.Refusal.{Refusal}
-use Rattle.profile.specs.declared.refusals.Refusal.TheVariants.{TooMuch, RepeatedLine, BadText, TooManyLines}
-use Rattle.profile.specs.Clerk.{RawLine, raw_line, line_of, is_bad_line, is_too_much, picks_nothing, same_raw_pair, sheet_of, sheet_of_records}
-use Rattle.profile.specs.declared.sheet_kind.SheetKind.{SheetKind}
-use Rattle.profile.specs.declared.sheet_kind.SheetKind.TheVariants.{Count as CountSheet, Pick as PickSheet, Recount as RecountSheet}
-use Rattle.profile.proofs.TextLaws.{both_parts}
+use Rattle.definitions.specs.Rules.{Today}
+use Rattle.definitions.specs.declared.widths.TheConstants.{SHEET_DIGITS}
+use Rattle.definitions.specs.Bytes.{is_identifier, is_number, is_digit, value}
+use Rattle.definitions.specs.Limits.{most_lines, most_item, most_lot, most_recounted}
+use Rattle.definitions.specs.Lists.{has_repeats, in_order}
+use Rattle.definitions.specs.Events.{pair_before}
+use Rattle.definitions.specs.Means.{Line}
+use Rattle.definitions.specs.declared.refusals.Refusal.{Refusal}
+use Rattle.definitions.specs.declared.refusals.Refusal.TheVariants.{TooMuch, RepeatedLine, BadText, TooManyLines}
+use Rattle.definitions.specs.Clerk.{RawLine, raw_line, line_of, is_bad_line, is_too_much, picks_nothing, same_raw_pair, sheet_of, sheet_of_records}
+use Rattle.definitions.specs.declared.sheet_kind.SheetKind.{SheetKind}
+use Rattle.definitions.specs.declared.sheet_kind.SheetKind.TheVariants.{Count as CountSheet, Pick as PickSheet, Recount as RecountSheet}
+use Rattle.definitions.proofs.TextLaws.{both_parts}
 use Rattle.csv.specs.Records.{field_at}
 use Rattle.segments.proofs.DigitsLemmas.{few_digits}
 use Rattle.sheet_texts.specs.Reasons.{line_in, each_after, first_reason, is_reason, is_unread, is_over}
@@ -133,7 +133,7 @@ long_of text digits great = by_length (ltb SHEET_DIGITS (length text)) refl
     by_length false e = absurd (omega (arith, great, few_digits SHEET_DIGITS text (ltb-false SHEET_DIGITS (length text) e) digits))
 
 -- a line that can be read and is too much is told
-over : (kind : SheetKind) (l : RawLine) → is_bad_line kind l ≡ false → is_too_much Two kind l ≡ true → is_over kind l ≡ true
+over : (kind : SheetKind) (l : RawLine) → is_bad_line kind l ≡ false → is_too_much Today kind l ≡ true → is_over kind l ≡ true
 over CountSheet l good h = h
 over PickSheet l good h = h
 over RecountSheet l good h =
@@ -142,12 +142,12 @@ over RecountSheet l good h =
     (λ great. lt-ltb SHEET_DIGITS (length l.quantity) (long_of l.quantity (read_digits RecountSheet l good) (ltb-true most_recounted (value l.quantity) great)))
 
 -- too much among lines that can be read
-over_one : (kind : SheetKind) (ls : List (List (List ℕ))) → list_any (λ r. is_bad_line kind (line_in r)) ls ≡ false → list_any (λ r. is_too_much Two kind (line_in r)) ls ≡ true
+over_one : (kind : SheetKind) (ls : List (List (List ℕ))) → list_any (λ r. is_bad_line kind (line_in r)) ls ≡ false → list_any (λ r. is_too_much Today kind (line_in r)) ls ≡ true
     → list_any (λ r. is_over kind (line_in r)) ls ≡ true
 over_one kind [] good h = absurd (cc)
 over_one kind (r ∷ ls) good h =
     let p = none_parts (is_bad_line kind (line_in r)) (list_any (λ s. is_bad_line kind (line_in s)) ls) good in
-    either (is_too_much Two kind (line_in r)) (list_any (λ s. is_too_much Two kind (line_in s)) ls) h (list_any (λ s. is_over kind (line_in s)) (r ∷ ls) ≡ true)
+    either (is_too_much Today kind (line_in r)) (list_any (λ s. is_too_much Today kind (line_in s)) ls) h (list_any (λ s. is_over kind (line_in s)) (r ∷ ls) ≡ true)
     (λ e. left_so (is_over kind (line_in r)) (list_any (λ s. is_over kind (line_in s)) ls) (over kind (line_in r) p.0 e))
     (λ e. right_so (is_over kind (line_in r)) (list_any (λ s. is_over kind (line_in s)) ls) (over_one kind ls p.1 e))
 
@@ -169,8 +169,8 @@ over_reason kind rows h = reasoned kind rows TooMuch (one_is (λ x. is_over kind
 repeated_reason : (kind : SheetKind) (rows : List (List (List ℕ))) → has_repeats (λ a b. same_raw_pair (line_in a) (line_in b)) rows ≡ true → Reasoned kind rows RepeatedLine
 repeated_reason kind rows h = reasoned kind rows RepeatedLine (again (λ a b. same_raw_pair (line_in a) (line_in b)) [] rows h)
 
-many_reason : (kind : SheetKind) (rows : List (List (List ℕ))) → most_lines Two < length rows → Reasoned kind rows TooManyLines
-many_reason kind rows h = reasoned kind rows TooManyLines (one_after (most_lines Two) [] rows (most_lines Two) (omega arith) h)
+many_reason : (kind : SheetKind) (rows : List (List (List ℕ))) → most_lines Today < length rows → Reasoned kind rows TooManyLines
+many_reason kind rows h = reasoned kind rows TooManyLines (one_after (most_lines Today) [] rows (most_lines Today) (omega arith) h)
 
 no_three : (kind : SheetKind) (fields : List (List ℕ)) → is_none (raw_line fields) ≡ true → is_unread kind fields ≡ true
 no_three kind fields h =
@@ -181,44 +181,44 @@ bad_line kind fields h =
     right_so (is_none (raw_line fields)) (is_bad_line kind (line_in fields)) h
 
 -- of records of three fields, no more than a sheet may have
-lines_reason : (kind : SheetKind) (rows : List (List (List ℕ))) (r : Refusal) → length rows ≤ most_lines Two → sheet_of Two kind (map line_in rows) ≡ Err r → Reasoned kind rows r
+lines_reason : (kind : SheetKind) (rows : List (List (List ℕ))) (r : Refusal) → length rows ≤ most_lines Today → sheet_of Today kind (map line_in rows) ≡ Err r → Reasoned kind rows r
 lines_reason kind rows r few h =
-    by_tests (nat_lt (most_lines Two) (length (map line_in rows))) (list_any (is_bad_line kind) (map line_in rows)) (list_any (is_too_much Two kind) (map line_in rows)) (has_repeats same_raw_pair (map line_in rows))
+    by_tests (nat_lt (most_lines Today) (length (map line_in rows))) (list_any (is_bad_line kind) (map line_in rows)) (list_any (is_too_much Today kind) (map line_in rows)) (has_repeats same_raw_pair (map line_in rows))
     refl refl refl refl h
   where
     sheet : List Line
     sheet = in_order pair_before (map line_of (map line_in rows))
 
-    by_tests : (a b c d : Bool) → nat_lt (most_lines Two) (length (map line_in rows)) ≡ a → list_any (is_bad_line kind) (map line_in rows) ≡ b → list_any (is_too_much Two kind) (map line_in rows) ≡ c → has_repeats same_raw_pair (map line_in rows) ≡ d
+    by_tests : (a b c d : Bool) → nat_lt (most_lines Today) (length (map line_in rows)) ≡ a → list_any (is_bad_line kind) (map line_in rows) ≡ b → list_any (is_too_much Today kind) (map line_in rows) ≡ c → has_repeats same_raw_pair (map line_in rows) ≡ d
         → cond {A = Result (List Line) Refusal} a (Err TooManyLines) (cond b (Err BadText) (cond c (Err TooMuch) (cond d (Err RepeatedLine) (Ok sheet)))) ≡ Err r → Reasoned kind rows r
-    by_tests true b c d e f g i k = absurd (omega (arith, few, length-map rows line_in, ltb-true (most_lines Two) (length (map line_in rows)) e))
+    by_tests true b c d e f g i k = absurd (omega (arith, few, length-map rows line_in, ltb-true (most_lines Today) (length (map line_in rows)) e))
     by_tests false true c d e f g i k =
         let same : r ≡ BadText = cc in
         rw same (unread_reason kind rows (λ x. is_bad_line kind (line_in x)) (bad_line kind) (sym (any-map line_in (is_bad_line kind) rows) ∙ f))
     by_tests false false true d e f g i k =
         let same : r ≡ TooMuch = cc in
-        rw same (over_reason kind rows (over_one kind rows (sym (any-map line_in (is_bad_line kind) rows) ∙ f) (sym (any-map line_in (is_too_much Two kind) rows) ∙ g)))
+        rw same (over_reason kind rows (over_one kind rows (sym (any-map line_in (is_bad_line kind) rows) ∙ f) (sym (any-map line_in (is_too_much Today kind) rows) ∙ g)))
     by_tests false false false true e f g i k =
         let same : r ≡ RepeatedLine = cc in
         rw same (repeated_reason kind rows (sym (repeats-map line_in same_raw_pair rows) ∙ i))
     by_tests false false false false e f g i k = absurd (cc)
 
-pub refused_reason : (kind : SheetKind) (rows : List (List (List ℕ))) (r : Refusal) → sheet_of_records Two kind rows ≡ Err r → Reasoned kind (take (most_lines Two + 1) rows) r
+pub refused_reason : (kind : SheetKind) (rows : List (List (List ℕ))) (r : Refusal) → sheet_of_records Today kind rows ≡ Err r → Reasoned kind (take (most_lines Today + 1) rows) r
 refused_reason kind rows r h =
-    by_tests (nat_lt (most_lines Two) (length rows)) (list_any (λ fields. is_none (raw_line fields)) rows) refl refl h
+    by_tests (nat_lt (most_lines Today) (length rows)) (list_any (λ fields. is_none (raw_line fields)) rows) refl refl h
   where
-    few : nat_lt (most_lines Two) (length rows) ≡ false → length rows ≤ most_lines Two
-    few e = ltb-false (most_lines Two) (length rows) e
+    few : nat_lt (most_lines Today) (length rows) ≡ false → length rows ≤ most_lines Today
+    few e = ltb-false (most_lines Today) (length rows) e
 
-    all : nat_lt (most_lines Two) (length rows) ≡ false → take (most_lines Two + 1) rows ≡ rows
-    all e = take_all (most_lines Two + 1) rows (omega (arith, few e))
+    all : nat_lt (most_lines Today) (length rows) ≡ false → take (most_lines Today + 1) rows ≡ rows
+    all e = take_all (most_lines Today + 1) rows (omega (arith, few e))
 
-    by_tests : (a b : Bool) → nat_lt (most_lines Two) (length rows) ≡ a → list_any (λ fields. is_none (raw_line fields)) rows ≡ b
-        → cond {A = Result (List Line) Refusal} a (Err TooManyLines) (cond b (Err BadText) (sheet_of Two kind (filter_map raw_line rows))) ≡ Err r → Reasoned kind (take (most_lines Two + 1) rows) r
+    by_tests : (a b : Bool) → nat_lt (most_lines Today) (length rows) ≡ a → list_any (λ fields. is_none (raw_line fields)) rows ≡ b
+        → cond {A = Result (List Line) Refusal} a (Err TooManyLines) (cond b (Err BadText) (sheet_of Today kind (filter_map raw_line rows))) ≡ Err r → Reasoned kind (take (most_lines Today + 1) rows) r
     by_tests true b e f k =
         let same : r ≡ TooManyLines = cc in
-        rw same (many_reason kind (take (most_lines Two + 1) rows) (omega (arith, ltb-true (most_lines Two) (length rows) e, length-take (most_lines Two + 1) rows)))
+        rw same (many_reason kind (take (most_lines Today + 1) rows) (omega (arith, ltb-true (most_lines Today) (length rows) e, length-take (most_lines Today + 1) rows)))
     by_tests false true e f k =
         let same : r ≡ BadText = cc in
         rw (same, all e) (unread_reason kind rows (λ fields. is_none (raw_line fields)) (no_three kind) f)
-    by_tests false false e f k = rw (all e) (lines_reason kind rows r (few e) (ap (sheet_of Two kind) (sym (lines_are rows f)) ∙ k))
+    by_tests false false e f k = rw (all e) (lines_reason kind rows r (few e) (ap (sheet_of Today kind) (sym (lines_are rows f)) ∙ k))

@@ -8,9 +8,9 @@ use Rattle.std.proofs.lemmas.Str.{IsUtf8-from_ascii}
 use Rattle.std.proofs.lemmas.Str.Ascii.{IsAscii-from_all}
 use Rattle.std.proofs.lemmas.List.Elements.{All-nil, All-cons}
 use Rattle.std.specs.List.{All}
-use Rattle.profile.specs.Bytes.{is_identifier, is_identifier_byte}
-use Rattle.profile.specs.Limits.{most_item, most_lot}
-use Rattle.profile.proofs.TextLaws.{both_parts}
+use Rattle.definitions.specs.Bytes.{is_identifier, is_identifier_byte}
+use Rattle.definitions.specs.Limits.{most_item, most_lot}
+use Rattle.definitions.proofs.TextLaws.{both_parts}
 use Rattle.sheet_texts.specs.Texts.{field_of}
 use Rattle.sheet_texts.specs.Reasons.{told}
 

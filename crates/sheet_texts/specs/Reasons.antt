@@ -1,16 +1,16 @@
 -- Why a text makes no sheet, for people: the record that is the reason, and what is told of it.
 use Rattle.std.specs.Prelude.{ℕ, Bool, false, not, ◌&&◌, ◌||◌, ◌==◌, nat_lt, List, [], ◌∷◌, ◌++◌, length, take, ◌+◌, is_none, if◌then◌else◌, bytes_eq, codes, Option, Some, None, option_map, find}
 use Rattle.std.specs.List.{list_any}
-use Rattle.profile.specs.declared.rules.Rules.TheVariants.{Two}
-use Rattle.profile.specs.declared.widths.TheConstants.{SHEET_DIGITS}
-use Rattle.profile.specs.Limits.{most_lines, most_item, most_lot}
-use Rattle.profile.specs.Bytes.{is_identifier, is_number}
-use Rattle.profile.specs.Lists.{first_of}
-use Rattle.profile.specs.declared.refusals.Refusal.{Refusal}
-use Rattle.profile.specs.declared.refusals.Refusal.TheVariants.{TooMuch, RepeatedLine, BadText, TooManyLines}
-use Rattle.profile.specs.Clerk.{RawLine, is_too_much, is_bad_line, same_raw_pair, raw_line}
-use Rattle.profile.specs.declared.sheet_kind.SheetKind.{SheetKind}
-use Rattle.profile.specs.declared.sheet_kind.SheetKind.TheVariants.{Recount as RecountSheet}
+use Rattle.definitions.specs.Rules.{Today}
+use Rattle.definitions.specs.declared.widths.TheConstants.{SHEET_DIGITS}
+use Rattle.definitions.specs.Limits.{most_lines, most_item, most_lot}
+use Rattle.definitions.specs.Bytes.{is_identifier, is_number}
+use Rattle.definitions.specs.Lists.{first_of}
+use Rattle.definitions.specs.declared.refusals.Refusal.{Refusal}
+use Rattle.definitions.specs.declared.refusals.Refusal.TheVariants.{TooMuch, RepeatedLine, BadText, TooManyLines}
+use Rattle.definitions.specs.Clerk.{RawLine, is_too_much, is_bad_line, same_raw_pair, raw_line}
+use Rattle.definitions.specs.declared.sheet_kind.SheetKind.{SheetKind}
+use Rattle.definitions.specs.declared.sheet_kind.SheetKind.TheVariants.{Recount as RecountSheet}
 use Rattle.sheet_texts.specs.Texts.{field_of, records_of}
 
 -- a record as a line, however many fields it has: one that isn't there is empty
@@ -20,7 +20,7 @@ line_in fields =
 
 -- the records that are read of a text: all, or one more than a sheet may have
 abbrev pub first_records : List ℕ → List (List (List ℕ))
-first_records text = take (most_lines Two + 1) (records_of text)
+first_records text = take (most_lines Today + 1) (records_of text)
 
 -- Reasons.
 
@@ -31,7 +31,7 @@ is_unread kind fields = is_none (raw_line fields) || is_bad_line kind (line_in f
 -- a quantity over its limit; of a recount it is one of more than nine digits
 abbrev pub is_over : SheetKind → RawLine → Bool
 is_over RecountSheet l = nat_lt SHEET_DIGITS (length l.quantity)
-is_over kind l = is_too_much Two kind l
+is_over kind l = is_too_much Today kind l
 
 -- whether the pair of a record stands in one of those before it
 abbrev pub is_repeated : List (List (List ℕ)) → List (List ℕ) → Bool
@@ -43,7 +43,7 @@ abbrev pub is_reason : SheetKind → List (List (List ℕ)) → List (List ℕ) 
 is_reason kind before fields BadText = is_unread kind fields
 is_reason kind before fields TooMuch = is_over kind (line_in fields)
 is_reason kind before fields RepeatedLine = is_repeated before fields
-is_reason kind before fields TooManyLines = length before == most_lines Two
+is_reason kind before fields TooManyLines = length before == most_lines Today
 is_reason kind before fields refusal = false
 
 -- each record after those that stand before it

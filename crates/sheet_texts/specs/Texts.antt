@@ -2,11 +2,11 @@
 use Rattle.std.specs.Prelude.{ℕ, List, [], Option, Some, None, Result}
 use Rattle.csv.specs.Reading.{records, default_config, strip_bom}
 use Rattle.csv.specs.Records.{field_at}
-use Rattle.profile.specs.declared.rules.Rules.{Rules}
-use Rattle.profile.specs.Clerk.{sheet_of_records}
-use Rattle.profile.specs.declared.sheet_kind.SheetKind.{SheetKind}
-use Rattle.profile.specs.Means.{Line}
-use Rattle.profile.specs.declared.refusals.Refusal.{Refusal}
+use Rattle.definitions.specs.declared.rules.Rules.{Rules}
+use Rattle.definitions.specs.Clerk.{sheet_of_records}
+use Rattle.definitions.specs.declared.sheet_kind.SheetKind.{SheetKind}
+use Rattle.definitions.specs.Means.{Line}
+use Rattle.definitions.specs.declared.refusals.Refusal.{Refusal}
 
 -- the records of a text that has no header, a byte order mark at its start taken off
 abbrev pub records_of : List ℕ → List (List (List ℕ))

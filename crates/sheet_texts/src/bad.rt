@@ -3,15 +3,15 @@ ghost use Rattle.std.specs.Prelude.{◌≡◌, Err, IfOk, IsTrue, is_some, map, 
 ghost use Rattle.std.specs.List.{find, list_all, list_any};
 ghost use Rattle.std.specs.String.{string_bytes};
 ghost use Rattle.csv.specs.Records.{fields_of};
-ghost use Rattle.profile.specs.declared.rules.Rules.TheVariants.{Two};
-ghost use Rattle.profile.specs.Bytes.{is_identifier_byte};
+ghost use Rattle.definitions.specs.Rules.{Today};
+ghost use Rattle.definitions.specs.Bytes.{is_identifier_byte};
 ghost use Rattle.sheet_texts.specs.Texts.{sheet_of_text};
 ghost use Rattle.sheet_texts.specs.Reasons as reasons;
 
 use crate::records::first_records;
 use crate::texts::field;
 use csv::ByteRecord;
-use profile::{MOST_ITEM, MOST_LINES_TWO, MOST_LOT, MOST_QUANTITY_TWO, Refusal, SHEET_DIGITS};
+use definitions::{MOST_ITEM, MOST_LINES_TWO, MOST_LOT, MOST_QUANTITY_TWO, Refusal, SHEET_DIGITS};
 use segments::{Ident, all_digits, value_up_to};
 use sheets::SheetKind;
 use std::alloc::{AllocError, Global};
@@ -187,7 +187,7 @@ pub fn first_bad(
 ) -> Result<Option<BadLine>, AllocError>
     ensures told { IfOk result (λ found. option_map (λ bad. string_bytes bad.why) found
         ≡ reasons.told_of_text kind refusal text.now) }
-    ensures refused { IfOk result (λ found. sheet_of_text Two kind text.now ≡ Err refusal
+    ensures refused { IfOk result (λ found. sheet_of_text Today kind text.now ≡ Err refusal
         → is_some found ≡ true) }
 {
     let rows = first_records(alloc, text)?;

@@ -1,13 +1,13 @@
 ghost use Rattle.std.specs.Prelude.{◌≡◌, [], List, true, Ok, Err, IfOk, IfErr, IfSome, map, is_none};
 ghost use Rattle.std.specs.List.{filter_map, list_any};
 ghost use Rattle.csv.specs.Records.{fields_of, field_at};
-ghost use Rattle.profile.specs.declared.rules.Rules.TheVariants.{Two};
-ghost use Rattle.profile.specs.Clerk.{is_sheet, raw_line};
+ghost use Rattle.definitions.specs.Rules.{Today};
+ghost use Rattle.definitions.specs.Clerk.{is_sheet, raw_line};
 ghost use Rattle.sheet_texts.specs.Texts.{sheet_of_text, field_of};
 
 use crate::records::first_records;
 use csv::ByteRecord;
-use profile::{MOST_LINES_TWO, Refusal, Rules};
+use definitions::{MOST_LINES_TWO, Refusal, TODAY};
 use sheets::{Line, Sheet, SheetKind};
 use std::alloc::{AllocError, Global};
 
@@ -61,12 +61,12 @@ pub fn sheet(
     text: &[u8],
 ) -> Result<Result<Sheet, Refusal>, AllocError>
     ensures ok { IfOk result
-        (λ made. IfOk made (λ sheet. sheet_of_text Two kind text.now ≡ Ok sheet)) }
+        (λ made. IfOk made (λ sheet. sheet_of_text Today kind text.now ≡ Ok sheet)) }
     ensures kind { IfOk result
-        (λ made. IfOk made (λ sheet. is_sheet Two kind sheet ≡ true)) }
+        (λ made. IfOk made (λ sheet. is_sheet Today kind sheet ≡ true)) }
     ensures err { IfOk result
         (λ made. IfErr made
-        (λ refusal. sheet_of_text Two kind text.now ≡ Err refusal)) }
+        (λ refusal. sheet_of_text Today kind text.now ≡ Err refusal)) }
 {
     let rows = first_records(alloc, text)?;
     if rows.len() > usize::from(MOST_LINES_TWO) {
@@ -75,5 +75,5 @@ pub fn sheet(
     let Some(lines) = lines_of(alloc, &rows)? else {
         return Ok(Err(Refusal::BadText));
     };
-    Ok(Sheet::new(kind, lines, Rules::Two))
+    Ok(Sheet::new(kind, lines, TODAY))
 }

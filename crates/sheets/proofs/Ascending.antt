@@ -2,9 +2,9 @@
 use Rattle.std.proofs.Common.{◌≡◌, ℕ, zero, suc, ◌+◌, ◌<◌, Bool, true, false, ◌&&◌, List, [], ◌∷◌, map, refl, ap, sym, ◌∙◌, subst, arith, length, get_or}
 use Rattle.std.specs.List.{AllAdjacentBelow, IsAllAdjacentAnswer}
 use Rattle.std.specs.Cmp.Derive.{both_true}
-use Rattle.profile.specs.Clerk.{is_ascending}
-use Rattle.profile.specs.Events.{pair_before}
-use Rattle.profile.specs.Means.{Line}
+use Rattle.definitions.specs.Clerk.{is_ascending}
+use Rattle.definitions.specs.Events.{pair_before}
+use Rattle.definitions.specs.Means.{Line}
 
 -- of things that have a line each, where `before` tells it of two
 abbrev Tells : {X : Type 0} → (X → Line) → (X → X → Bool) → Type 0

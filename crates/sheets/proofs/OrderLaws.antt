@@ -6,11 +6,11 @@ use Rattle.std.specs.Cmp.Derive.{both_true}
 use Rattle.std.proofs.lemmas.Bool.{both_ways}
 use Rattle.std.proofs.lemmas.List.Sorted.{IsPermutation-map, sum_by-IsPermutation}
 use Rattle.std.proofs.lemmas.List.Sums.{sum_by-cons}
-use Rattle.profile.specs.Lists.{has_repeats}
-use Rattle.profile.specs.Means.{Line}
-use Rattle.profile.specs.Events.{pair_before}
-use Rattle.profile.specs.Clerk.{RawLine, line_of, same_raw_pair, is_ascending}
-use Rattle.profile.proofs.TextLaws.{both_parts, same_text, text_is}
+use Rattle.definitions.specs.Lists.{has_repeats}
+use Rattle.definitions.specs.Means.{Line}
+use Rattle.definitions.specs.Events.{pair_before}
+use Rattle.definitions.specs.Clerk.{RawLine, line_of, same_raw_pair, is_ascending}
+use Rattle.definitions.proofs.TextLaws.{both_parts, same_text, text_is}
 use Rattle.sheets.specs.Pairs.{pair_cmp}
 use Rattle.sheets.proofs.PairLaws.{before_is, never_before, before_through, one_pair}
 

@@ -6,10 +6,10 @@ use Rattle.std.specs.Ordering.{is_lt, nat_cmp, ordering_reverse, ordering_then}
 use Rattle.std.specs.declared.cmp.Ordering.TheVariants.{Less, Equal, Greater}
 use Rattle.std.proofs.lemmas.Bool.{both_ways}
 use Rattle.std.proofs.lemmas.Cmp.{nat_list_cmp_total, then_total, on_total, tied_itself, ranked}
-use Rattle.profile.specs.Means.{Line}
-use Rattle.profile.specs.Events.{pair_before}
-use Rattle.profile.specs.Clerk.{RawLine}
-use Rattle.profile.proofs.TextLaws.{same_text, text_is}
+use Rattle.definitions.specs.Means.{Line}
+use Rattle.definitions.specs.Events.{pair_before}
+use Rattle.definitions.specs.Clerk.{RawLine}
+use Rattle.definitions.proofs.TextLaws.{same_text, text_is}
 use Rattle.sheets.specs.Pairs.{pair_cmp}
 
 abbrev pub line_cmp : Line → Line → Ordering

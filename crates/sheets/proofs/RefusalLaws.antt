@@ -2,15 +2,15 @@
 use Rattle.std.proofs.Common.{◌≡◌, Bool, true, false, cond, List, map, length, refl, ap, Option, Some, None, Result, Ok, Err}
 use Rattle.std.specs.Prelude.{nat_lt}
 use Rattle.std.specs.List.{list_any}
-use Rattle.profile.specs.declared.rules.Rules.{Rules}
-use Rattle.profile.specs.Limits.{most_lines}
-use Rattle.profile.specs.Lists.{has_repeats, in_order}
-use Rattle.profile.specs.Means.{Line}
-use Rattle.profile.specs.Events.{pair_before}
-use Rattle.profile.specs.declared.refusals.Refusal.{Refusal}
-use Rattle.profile.specs.declared.refusals.Refusal.TheVariants.{TooMuch, RepeatedLine, BadText, TooManyLines}
-use Rattle.profile.specs.Clerk.{RawLine, line_of, sheet_of, is_bad_line, is_too_much, same_raw_pair}
-use Rattle.profile.specs.declared.sheet_kind.SheetKind.{SheetKind}
+use Rattle.definitions.specs.declared.rules.Rules.{Rules}
+use Rattle.definitions.specs.Limits.{most_lines}
+use Rattle.definitions.specs.Lists.{has_repeats, in_order}
+use Rattle.definitions.specs.Means.{Line}
+use Rattle.definitions.specs.Events.{pair_before}
+use Rattle.definitions.specs.declared.refusals.Refusal.{Refusal}
+use Rattle.definitions.specs.declared.refusals.Refusal.TheVariants.{TooMuch, RepeatedLine, BadText, TooManyLines}
+use Rattle.definitions.specs.Clerk.{RawLine, line_of, sheet_of, is_bad_line, is_too_much, same_raw_pair}
+use Rattle.definitions.specs.declared.sheet_kind.SheetKind.{SheetKind}
 use Rattle.sheets.specs.Misfits.{misfit_of}
 
 abbrev refusal_or : Refusal → Option Refusal → Refusal

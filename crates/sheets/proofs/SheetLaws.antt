@@ -7,20 +7,20 @@ use Rattle.std.specs.Cmp.Derive.{both_true}
 use Rattle.std.proofs.Common.{le-leb, leb-true}
 use Rattle.std.proofs.lemmas.List.Sorted.{IsPermutation-map, sum_by-IsPermutation}
 use Rattle.std.proofs.lemmas.List.Elements.{All-nil, All-cons}
-use Rattle.profile.specs.declared.rules.Rules.{Rules}
-use Rattle.profile.specs.declared.rules.Rules.TheVariants.{One, Two}
-use Rattle.profile.specs.Bytes.{value, is_identifier}
-use Rattle.profile.specs.Limits.{most_lines, most_item, most_lot, most_quantity, most_recounted}
-use Rattle.profile.specs.Lists.{in_order}
-use Rattle.profile.specs.Means.{Line}
-use Rattle.profile.specs.Events.{pair_before}
-use Rattle.profile.specs.declared.refusals.Refusal.{Refusal}
-use Rattle.profile.specs.declared.refusals.Refusal.TheVariants.{RepeatedLine}
-use Rattle.profile.specs.Clerk.{RawLine, line_of, sheet_of, is_sheet, is_sheet_line, is_ascending, least_quantity, quantity_limit}
-use Rattle.profile.specs.declared.sheet_kind.SheetKind.{SheetKind}
-use Rattle.profile.specs.declared.sheet_kind.SheetKind.TheVariants.{Count as CountSheet, Pick as PickSheet, Recount as RecountSheet}
-use Rattle.profile.proofs.SheetLaws.{sheet_of-is, is_sheet-later}
-use Rattle.profile.proofs.TextLaws.{both_parts}
+use Rattle.definitions.specs.declared.rules.Rules.{Rules}
+use Rattle.definitions.specs.declared.rules.Rules.TheVariants.{One, Two}
+use Rattle.definitions.specs.Bytes.{value, is_identifier}
+use Rattle.definitions.specs.Limits.{most_lines, most_item, most_lot, most_quantity, most_recounted}
+use Rattle.definitions.specs.Lists.{in_order}
+use Rattle.definitions.specs.Means.{Line}
+use Rattle.definitions.specs.Events.{pair_before}
+use Rattle.definitions.specs.declared.refusals.Refusal.{Refusal}
+use Rattle.definitions.specs.declared.refusals.Refusal.TheVariants.{RepeatedLine}
+use Rattle.definitions.specs.Clerk.{RawLine, line_of, sheet_of, is_sheet, is_sheet_line, is_ascending, least_quantity, quantity_limit}
+use Rattle.definitions.specs.declared.sheet_kind.SheetKind.{SheetKind}
+use Rattle.definitions.specs.declared.sheet_kind.SheetKind.TheVariants.{Count as CountSheet, Pick as PickSheet, Recount as RecountSheet}
+use Rattle.definitions.proofs.SheetLaws.{sheet_of-is, is_sheet-later}
+use Rattle.definitions.proofs.TextLaws.{both_parts}
 use Rattle.sheets.specs.Pairs.{pair_cmp}
 use Rattle.sheets.specs.Misfits.{misfit_of}
 use Rattle.sheets.proofs.OrderLaws.{ascending_same, repeats_fall}

@@ -1,13 +1,13 @@
 -- Why lines make no sheet, but for a repeated pair.
 use Rattle.std.specs.Prelude.{List, [], ◌∷◌, length, nat_lt, Some, None, Option}
 use Rattle.std.specs.List.{list_any}
-use Rattle.profile.specs.declared.rules.Rules.{Rules}
-use Rattle.profile.specs.Limits.{most_lines}
-use Rattle.profile.specs.Lists.{first_of}
-use Rattle.profile.specs.declared.refusals.Refusal.{Refusal}
-use Rattle.profile.specs.declared.refusals.Refusal.TheVariants.{TooMuch, BadText, TooManyLines}
-use Rattle.profile.specs.Clerk.{RawLine, is_bad_line, is_too_much}
-use Rattle.profile.specs.declared.sheet_kind.SheetKind.{SheetKind}
+use Rattle.definitions.specs.declared.rules.Rules.{Rules}
+use Rattle.definitions.specs.Limits.{most_lines}
+use Rattle.definitions.specs.Lists.{first_of}
+use Rattle.definitions.specs.declared.refusals.Refusal.{Refusal}
+use Rattle.definitions.specs.declared.refusals.Refusal.TheVariants.{TooMuch, BadText, TooManyLines}
+use Rattle.definitions.specs.Clerk.{RawLine, is_bad_line, is_too_much}
+use Rattle.definitions.specs.declared.sheet_kind.SheetKind.{SheetKind}
 
 -- the first that holds, each over all lines
 abbrev pub misfit_of : Rules → SheetKind → List RawLine → Option Refusal

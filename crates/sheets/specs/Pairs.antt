@@ -2,7 +2,7 @@
 use Rattle.std.specs.Ordering.{ordering_then, nat_cmp}
 use Rattle.std.specs.declared.cmp.Ordering.{Ordering}
 use Rattle.std.specs.Cmp.Lexicographic.{slice_cmp}
-use Rattle.profile.specs.Clerk.{RawLine}
+use Rattle.definitions.specs.Clerk.{RawLine}
 
 -- by item and then lot, each by its bytes
 abbrev pub pair_cmp : RawLine → RawLine → Ordering

@@ -6,6 +6,6 @@ mod lines;
 mod making;
 mod writing;
 
+pub use definitions::SheetKind;
 pub use lines::Line;
 pub use making::Sheet;
-pub use profile::SheetKind;

@@ -1,10 +1,10 @@
 ghost use Rattle.std.specs.Prelude.{◌≡◌, ◌≤◌, ◌-◌, ◌^◌, min, IfOk};
-ghost use Rattle.profile.specs.Bytes as bytes;
-ghost use Rattle.profile.specs.Clerk as clerk;
-ghost use Rattle.profile.specs.Limits.{most_recounted};
+ghost use Rattle.definitions.specs.Bytes as bytes;
+ghost use Rattle.definitions.specs.Clerk as clerk;
+ghost use Rattle.definitions.specs.Limits.{most_recounted};
 ghost use Rattle.sheets.specs.Pairs.{pair_cmp};
 
-use profile::{MOST_ITEM, MOST_LOT, Rules, SHEET_DIGITS, SheetKind};
+use definitions::{MOST_ITEM, MOST_LOT, Rules, SHEET_DIGITS, SheetKind};
 use segments::{Ident, all_digits, value_up_to};
 use std::alloc::{AllocError, Global};
 use std::cmp::Ordering;

@@ -1,18 +1,18 @@
 ghost use Rattle.std.specs.Prelude.{◌≡◌, ◌==◌, ◌++◌, OnOk, OnErr, flat_map, List, true, Ok, Err, IfOk, IfErr, IsPermutation, length, map};
 ghost use Rattle.std.specs.List.{list_any};
 ghost use Rattle.std.specs.List.Sorted.{IsSorted};
-ghost use Rattle.profile.specs.declared.rules.Rules.TheVariants.{Two};
-ghost use Rattle.profile.specs.Clerk as clerk;
-ghost use Rattle.profile.specs.Limits as limits;
-ghost use Rattle.profile.specs.Means as meant;
-ghost use Rattle.profile.specs.Register.{line_text};
-ghost use Rattle.profile.specs.declared.sheet_kind.SheetKind.TheVariants.{Recount as RecountSheet};
+ghost use Rattle.definitions.specs.Rules.{Today};
+ghost use Rattle.definitions.specs.Clerk as clerk;
+ghost use Rattle.definitions.specs.Limits as limits;
+ghost use Rattle.definitions.specs.Means as meant;
+ghost use Rattle.definitions.specs.Register.{line_text};
+ghost use Rattle.definitions.specs.declared.sheet_kind.SheetKind.TheVariants.{Recount as RecountSheet};
 ghost use Rattle.sheets.specs.Pairs.{pair_cmp};
 ghost use Rattle.sheets.specs.Misfits.{misfit_of};
 
 use crate::lines::Line;
 use crate::writing::append_lines;
-use profile::{MOST_LINES, MOST_LINES_TWO, Refusal, Rules, SheetKind};
+use definitions::{MOST_LINES, MOST_LINES_TWO, Refusal, Rules, SheetKind};
 use std::alloc::{AllocError, Global};
 use std::marker::Model;
 
@@ -28,7 +28,7 @@ impl Model for Sheet {
 
     ghost view = { λ s. map clerk.line_of s.lines.items };
 
-    ghost invariant = { λ s. clerk.is_sheet Two RecountSheet
+    ghost invariant = { λ s. clerk.is_sheet Today RecountSheet
         (map clerk.line_of s.lines.items) ≡ true };
 }
 
@@ -126,7 +126,7 @@ impl Sheet {
     /// memory.
     pub fn lines(&self, alloc: Global) -> Result<Vec<sets_in::Goods>, AllocError>
         ensures lines { IfOk result (λ v. v.items ≡ self.now) }
-        ensures sheet { clerk.is_sheet Two RecountSheet self.now ≡ true }
+        ensures sheet { clerk.is_sheet Today RecountSheet self.now ≡ true }
     {
         let mut lines = Vec::new(alloc);
         for line in &self.lines {

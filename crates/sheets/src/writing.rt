@@ -1,8 +1,8 @@
 ghost use Rattle.std.specs.Prelude.{◌≡◌, ◌≤◌, ◌++◌, All, OnOk, flat_map, map};
-ghost use Rattle.profile.specs.Bytes as bytes;
-ghost use Rattle.profile.specs.Clerk as clerk;
-ghost use Rattle.profile.specs.Limits.{most_recounted};
-ghost use Rattle.profile.specs.Register.{line_text};
+ghost use Rattle.definitions.specs.Bytes as bytes;
+ghost use Rattle.definitions.specs.Clerk as clerk;
+ghost use Rattle.definitions.specs.Limits.{most_recounted};
+ghost use Rattle.definitions.specs.Register.{line_text};
 ghost use Rattle.segments.specs.Extends.{Extends};
 
 use crate::lines::Line;

@@ -5,26 +5,26 @@ use Rattle.std.proofs.lemmas.List.{append-nil}
 use Rattle.std.proofs.lemmas.Grind.{flat_map-append}
 use Rattle.std.specs.Prelude.{bytes_eq, option_map, flat_map, find, is_none, nat_lt}
 use Rattle.std.specs.List.{list_any, list_all}
-use Rattle.profile.specs.Limits.{most_sets}
-use Rattle.profile.specs.Bytes.{comes_before}
-use Rattle.profile.specs.Lists.{or_else}
-use Rattle.profile.specs.Means.{Line, Acknowledgment}
-use Rattle.profile.specs.Rows.{LotRow, named, said_of, acknowledges}
-use Rattle.profile.specs.Page.{PageAdvice, PageOrder, PageDocument}
-use Rattle.profile.specs.Events.{Event, Acknowledged, count_naming, date_naming}
-use Rattle.profile.specs.Movements.{OnHand, Expected, Reservation}
+use Rattle.definitions.specs.Limits.{most_sets}
+use Rattle.definitions.specs.Bytes.{comes_before}
+use Rattle.definitions.specs.Lists.{or_else}
+use Rattle.definitions.specs.Means.{Line, Acknowledgment}
+use Rattle.definitions.specs.Rows.{LotRow, named, said_of, acknowledges}
+use Rattle.definitions.specs.Page.{PageAdvice, PageOrder, PageDocument}
+use Rattle.definitions.specs.Events.{Event, Acknowledged, count_naming, date_naming}
+use Rattle.definitions.specs.Movements.{OnHand, Expected, Reservation}
 use Rattle.stock.specs.declared.steps.Change.TheVariants as change
-use Rattle.goods.specs.OfPairs.{of_pair, date_of_pair, one, amount, since, named_by, positive}
-use Rattle.goods.specs.Keyed.{rises_by, key_before, row_key, shipment_of, number_of, entry_of}
-use Rattle.goods.specs.Pages.{PageFacts, is_document, advice_at, order_at, document_at, awaited, held, IsSound, AreSorted, is_in_lines}
+use Rattle.page_rows.specs.OfPairs.{of_pair, date_of_pair, one, amount, since, named_by, positive}
+use Rattle.page_rows.specs.Keyed.{rises_by, key_before, row_key, shipment_of, number_of, entry_of}
+use Rattle.page_rows.specs.Pages.{PageFacts, is_document, advice_at, order_at, document_at, awaited, held, IsSound, AreSorted, is_in_lines}
 use Rattle.stock.specs.Puts.{put}
 use Rattle.stock.specs.Parts.{Named, IsPart}
 use Rattle.stock.specs.Shows.{Shows, sent_if, sent_under, document_of, is_numbered_within}
-use Rattle.goods.specs.Steps.{decides, heard, said_of_found, IsAcknowledged}
+use Rattle.page_rows.specs.Steps.{decides, heard, said_of_found, IsAcknowledged}
 use Rattle.stock.specs.Stops.{document_changes}
-use Rattle.goods.proofs.Finds.{first_found_push, found_says}
-use Rattle.goods.proofs.Keys.{find_above}
-use Rattle.goods.proofs.KeyLemmas.{numbers_strict, document_test, document_put, said_sorted, sorted_distinct, advices_once, orders_once, documents_once}
+use Rattle.page_rows.proofs.Finds.{first_found_push, found_says}
+use Rattle.page_rows.proofs.Keys.{find_above}
+use Rattle.page_rows.proofs.KeyLemmas.{numbers_strict, document_test, document_put, said_sorted, sorted_distinct, advices_once, orders_once, documents_once}
 use Rattle.stock.proofs.Moves.{came_push, went_push}
 use Rattle.stock.proofs.PageLemmas.{all_numbered_same, own_number}
 use Rattle.stock.proofs.Events.{found_kept, all_push, advice_kept, order_kept, shares_kept, counted_kept, picked_kept}

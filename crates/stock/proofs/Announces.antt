@@ -6,28 +6,28 @@ use Rattle.std.specs.List.{list_all}
 use Rattle.std.proofs.lemmas.Bool.{and_parts}
 use Rattle.std.specs.Prelude.{bytes_eq, codes, find, is_some, option_map, flat_map, nat_lt}
 use Rattle.std.specs.Option.{option_or}
-use Rattle.profile.specs.Limits.{most_sets}
-use Rattle.profile.specs.Faults.{SetFault}
-use Rattle.profile.specs.Lists.{or_else, first_present}
-use Rattle.profile.specs.Means.{Line, AdviceLine, Advice, advised}
-use Rattle.profile.specs.Rows.{LotRow, named}
-use Rattle.profile.specs.Page.{PageAdvice, PageOrder, page_advice}
-use Rattle.profile.specs.Events.{Event, Advised, quantity_of, advice_if, advice_under, counts, count_naming, date_naming, is_other_date, is_redated, trade_fault, fault_where, repeated_pair, sooner, wrong_advice_total, advice_fault, advice_fault_where}
-use Rattle.profile.specs.Movements.{Expected, OnHand, Reservation}
+use Rattle.definitions.specs.Limits.{most_sets}
+use Rattle.definitions.specs.Faults.{SetFault}
+use Rattle.definitions.specs.Lists.{or_else, first_present}
+use Rattle.definitions.specs.Means.{Line, AdviceLine, Advice, advised}
+use Rattle.definitions.specs.Rows.{LotRow, named}
+use Rattle.definitions.specs.Page.{PageAdvice, PageOrder, page_advice}
+use Rattle.definitions.specs.Events.{Event, Advised, quantity_of, advice_if, advice_under, counts, count_naming, date_naming, is_other_date, is_redated, trade_fault, fault_where, repeated_pair, sooner, wrong_advice_total, advice_fault, advice_fault_where}
+use Rattle.definitions.specs.Movements.{Expected, OnHand, Reservation}
 use Rattle.sets_in.specs.Limits.{HasFewLines}
-use Rattle.goods.specs.OfPairs.{of_pair, date_of_pair, amount, named_by, date_of, positive}
-use Rattle.goods.specs.Pages.{PageFacts, advice_at, order_at, document_at, awaited, held, IsSound, AreSorted, is_in_lines}
+use Rattle.page_rows.specs.OfPairs.{of_pair, date_of_pair, amount, named_by, date_of, positive}
+use Rattle.page_rows.specs.Pages.{PageFacts, advice_at, order_at, document_at, awaited, held, IsSound, AreSorted, is_in_lines}
 use Rattle.stock.specs.Parts.{Named, IsPart, NamesAdvice, are_items}
 use Rattle.stock.specs.Shows.{Shows, is_numbered_within}
-use Rattle.goods.specs.Steps.{opened, IsAnnounced}
-use Rattle.goods.proofs.Sums.{named_append}
-use Rattle.profile.specs.Bytes.{comes_before}
-use Rattle.goods.specs.Keyed.{rises_by, number_of, entry_of}
-use Rattle.goods.proofs.Dates.{same_dates_of}
-use Rattle.goods.proofs.Keys.{was}
-use Rattle.goods.proofs.KeyLemmas.{sorted_distinct, advice_sum, advice_put_new, advices_put_sorted, advices_once, orders_once, documents_once}
+use Rattle.page_rows.specs.Steps.{opened, IsAnnounced}
+use Rattle.page_rows.proofs.Sums.{named_append}
+use Rattle.definitions.specs.Bytes.{comes_before}
+use Rattle.page_rows.specs.Keyed.{rises_by, number_of, entry_of}
+use Rattle.page_rows.proofs.Dates.{same_dates_of}
+use Rattle.page_rows.proofs.Keys.{was}
+use Rattle.page_rows.proofs.KeyLemmas.{sorted_distinct, advice_sum, advice_put_new, advices_put_sorted, advices_once, orders_once, documents_once}
 use Rattle.stock.proofs.Moves.{came_push, went_push, came_comes, went_comes, given_le, quantity_le, advised_le}
-use Rattle.goods.proofs.Finds.{first_found_push}
+use Rattle.page_rows.proofs.Finds.{first_found_push}
 use Rattle.stock.proofs.PageLemmas.{all_numbered_same}
 use Rattle.stock.proofs.Views.{advice_seen, uncounted, advice_view}
 use Rattle.stock.proofs.Events.{found_kept, any_kept, all_push, order_kept, document_kept, shares_kept, counted_kept, picked_kept}

@@ -5,26 +5,26 @@ use Rattle.std.proofs.lemmas.List.{append-nil}
 use Rattle.std.proofs.lemmas.Grind.{flat_map-append}
 use Rattle.std.specs.Prelude.{flat_map, count_by, codes, unwrap_or}
 use Rattle.std.specs.List.{list_any, list_all}
-use Rattle.profile.specs.Limits.{most_recounted, most_sets}
-use Rattle.profile.specs.Means.{Line}
-use Rattle.profile.specs.Rows.{LotRow, named}
-use Rattle.profile.specs.declared.refusals.Refusal.TheVariants.{UnknownLot, BelowReserved, NoDifference}
-use Rattle.profile.specs.Clerk.{recounted, on_hand_now}
-use Rattle.profile.specs.Page.{PageAdvice, PageOrder}
-use Rattle.profile.specs.Events.{Event, Recounted, is_pair, quantity_of, count_naming, date_naming, since as since_events}
-use Rattle.profile.specs.Movements.{Column, Expected, OnHand, Reservation, Shipped, comes, goes, balance}
-use Rattle.goods.specs.OfPairs.{of_pair, one, amount, since, given, named_by, positive}
-use Rattle.goods.specs.Moved.{set_by}
-use Rattle.profile.specs.Bytes.{comes_before}
-use Rattle.goods.specs.Keyed.{rises_by, shipment_of, number_of}
-use Rattle.goods.specs.Pages.{PageFacts, advice_at, order_at, awaited, held, IsSound, AreSorted, is_in_lines}
-use Rattle.goods.proofs.KeyLemmas.{sorted_distinct, sent_sorted, advices_once, orders_once, documents_once}
+use Rattle.definitions.specs.Limits.{most_recounted, most_sets}
+use Rattle.definitions.specs.Means.{Line}
+use Rattle.definitions.specs.Rows.{LotRow, named}
+use Rattle.definitions.specs.declared.refusals.Refusal.TheVariants.{UnknownLot, BelowReserved, NoDifference}
+use Rattle.definitions.specs.Clerk.{recounted, on_hand_now}
+use Rattle.definitions.specs.Page.{PageAdvice, PageOrder}
+use Rattle.definitions.specs.Events.{Event, Recounted, is_pair, quantity_of, count_naming, date_naming, since as since_events}
+use Rattle.definitions.specs.Movements.{Column, Expected, OnHand, Reservation, Shipped, comes, goes, balance}
+use Rattle.page_rows.specs.OfPairs.{of_pair, one, amount, since, given, named_by, positive}
+use Rattle.page_rows.specs.Moved.{set_by}
+use Rattle.definitions.specs.Bytes.{comes_before}
+use Rattle.page_rows.specs.Keyed.{rises_by, shipment_of, number_of}
+use Rattle.page_rows.specs.Pages.{PageFacts, advice_at, order_at, awaited, held, IsSound, AreSorted, is_in_lines}
+use Rattle.page_rows.proofs.KeyLemmas.{sorted_distinct, sent_sorted, advices_once, orders_once, documents_once}
 use Rattle.stock.specs.Shows.{Shows, is_numbered_within}
-use Rattle.goods.specs.Steps.{is_unknown, is_below, is_on_hand, IsRecounted}
-use Rattle.goods.proofs.OfPairLemmas.{pair_is, of_pair_absent}
+use Rattle.page_rows.specs.Steps.{is_unknown, is_below, is_on_hand, IsRecounted}
+use Rattle.page_rows.proofs.OfPairLemmas.{pair_is, of_pair_absent}
 use Rattle.stock.proofs.Moves.{came_push, went_push, came_append, went_append, came_comes, went_comes, came_goes, went_goes}
 use Rattle.stock.proofs.PageLemmas.{all_numbered_same, own_number}
-use Rattle.goods.proofs.Pairs.{IsSheet, count_yes, count_no, quantity_yes, quantity_no, quantity_none}
+use Rattle.page_rows.proofs.Pairs.{IsSheet, count_yes, count_no, quantity_yes, quantity_no, quantity_none}
 use Rattle.stock.proofs.Events.{found_kept, all_push, advice_kept, order_kept, shares_kept, counted_kept, picked_kept}
 use Rattle.stock.proofs.Receives.{sent_shown}
 use Rattle.stock.proofs.Ships.{any_same}

@@ -1,12 +1,12 @@
 -- A count of rows.
 use Rattle.std.proofs.Common.{ℕ, ap, ◌∙◌, arith, List}
 use Rattle.std.specs.List.{list_any}
-use Rattle.profile.specs.Rows.{LotRow}
-use Rattle.profile.specs.Means.{Line}
-use Rattle.profile.specs.Events.{is_pair}
-use Rattle.profile.specs.Movements.{Expected, OnHand}
-use Rattle.goods.specs.OfPairs.{first_number}
-use Rattle.goods.specs.Moved.{IsAdded, IsTaken, IsMarked, IsCounted}
+use Rattle.definitions.specs.Rows.{LotRow}
+use Rattle.definitions.specs.Means.{Line}
+use Rattle.definitions.specs.Events.{is_pair}
+use Rattle.definitions.specs.Movements.{Expected, OnHand}
+use Rattle.page_rows.specs.OfPairs.{first_number}
+use Rattle.page_rows.specs.Moved.{IsAdded, IsTaken, IsMarked, IsCounted}
 
 pub counted_made : (n : ℕ) (expected sheet : List Line) (r0 r1 r2 r3 : List LotRow)
     → IsTaken Expected expected r0 r1 → IsAdded OnHand sheet r1 r2 → IsMarked n sheet r2 r3 → IsCounted n expected sheet r0 r3

@@ -2,19 +2,19 @@
 use Rattle.std.proofs.Common.{◌≡◌, ℕ, ◌+◌, ◌<◌, ◌≤◌, Bool, true, false, ◌||◌, cond, List, [], ◌∷◌, ◌++◌, length, map, get_or, set, take, refl, ap, sym, ◌∙◌, arith, Option, None}
 use Rattle.std.proofs.lemmas.List.{take_more, get_or-map, length-map}
 use Rattle.std.specs.List.{list_any}
-use Rattle.profile.specs.Lists.{or_else}
-use Rattle.profile.specs.Rows.{LotRow}
-use Rattle.profile.specs.Means.{Line, AdviceLine}
-use Rattle.profile.specs.Events.{is_pair, date_given}
-use Rattle.profile.specs.Movements.{Column, Expected, OnHand, Reservation, Shipped}
-use Rattle.goods.specs.Keyed.{IsSorted}
-use Rattle.goods.specs.Moved.{IsPlace, IsAdded, IsDated, IsAdvised}
-use Rattle.goods.specs.OfPairs.{is_row, of_pair, date_of_pair, one, since, amount, named_by, date_of, dated}
-use Rattle.goods.proofs.Dates.{date_set, date_here}
-use Rattle.goods.proofs.Finds.{or_else_none, or_else_assoc, first_found-append}
-use Rattle.goods.proofs.KeyLemmas.{sorted_kept}
+use Rattle.definitions.specs.Lists.{or_else}
+use Rattle.definitions.specs.Rows.{LotRow}
+use Rattle.definitions.specs.Means.{Line, AdviceLine}
+use Rattle.definitions.specs.Events.{is_pair, date_given}
+use Rattle.definitions.specs.Movements.{Column, Expected, OnHand, Reservation, Shipped}
+use Rattle.page_rows.specs.Keyed.{IsSorted}
+use Rattle.page_rows.specs.Moved.{IsPlace, IsAdded, IsDated, IsAdvised}
+use Rattle.page_rows.specs.OfPairs.{is_row, of_pair, date_of_pair, one, since, amount, named_by, date_of, dated}
+use Rattle.page_rows.proofs.Dates.{date_set, date_here}
+use Rattle.page_rows.proofs.Finds.{or_else_none, or_else_assoc, first_found-append}
+use Rattle.page_rows.proofs.KeyLemmas.{sorted_kept}
 use Rattle.stock.proofs.Marks.{named_own}
-use Rattle.goods.proofs.OfPairLemmas.{of_pair_kept, row_at, row_as_line}
+use Rattle.page_rows.proofs.OfPairLemmas.{of_pair_kept, row_at, row_as_line}
 
 amount_dated : (c : Column) (date : Option (List ℕ)) (r : LotRow) → amount c (dated date r) ≡ amount c r
 amount_dated Expected date r = refl

@@ -4,13 +4,13 @@ use Rattle.std.proofs.lemmas.List.Folds.{list_any-append}
 use Rattle.std.proofs.lemmas.Bool.{and_parts}
 use Rattle.std.specs.Prelude.{option_map}
 use Rattle.std.specs.List.{list_any, list_all}
-use Rattle.profile.specs.Lists.{or_else, first_found}
-use Rattle.profile.specs.Means.{Advice}
-use Rattle.profile.specs.Rows.{acknowledges}
-use Rattle.profile.specs.Page.{page_advice, page_order}
-use Rattle.profile.specs.Events.{Event, advice_if, advice_under, Reserved, order_if, order_under, counts, picks}
+use Rattle.definitions.specs.Lists.{or_else, first_found}
+use Rattle.definitions.specs.Means.{Advice}
+use Rattle.definitions.specs.Rows.{acknowledges}
+use Rattle.definitions.specs.Page.{page_advice, page_order}
+use Rattle.definitions.specs.Events.{Event, advice_if, advice_under, Reserved, order_if, order_under, counts, picks}
 use Rattle.stock.specs.Shows.{sent_if, sent_under, document_of, NamesEachOnce}
-use Rattle.goods.proofs.Finds.{first_found_push, or_else_none}
+use Rattle.page_rows.proofs.Finds.{first_found_push, or_else_none}
 use Rattle.stock.proofs.Views.{advice_seen, order_seen, uncounted, unpicked, advice_view, order_view}
 
 pub or_false : (v : Bool) → (v || false) ≡ v

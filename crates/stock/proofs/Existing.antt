@@ -3,15 +3,15 @@ use Rattle.std.proofs.Common.{◌≡◌, ℕ, ◌≤◌, max, Bool, true, false,
 use Rattle.std.proofs.lemmas.Bool.{cases_Bool}
 use Rattle.std.proofs.lemmas.List.Folds.{list_any-append}
 use Rattle.std.specs.List.{list_any}
-use Rattle.profile.specs.Events.{is_pair}
-use Rattle.profile.specs.Means.{Line}
-use Rattle.profile.specs.Movements.{Column, Expected, OnHand, Reservation, Shipped}
-use Rattle.profile.specs.Rows.{LotRow}
-use Rattle.goods.specs.Keyed.{IsSorted, put_row}
-use Rattle.goods.specs.OfPairs.{of_pair, date_of_pair, one, since, amount, is_row, named_by}
-use Rattle.goods.proofs.Dates.{date_put}
-use Rattle.goods.proofs.KeyLemmas.{put_sorted, of_pair_put, sorted_distinct}
-use Rattle.goods.proofs.OfPairLemmas.{pair_is, of_pair_cons, part_yes, part_no}
+use Rattle.definitions.specs.Events.{is_pair}
+use Rattle.definitions.specs.Means.{Line}
+use Rattle.definitions.specs.Movements.{Column, Expected, OnHand, Reservation, Shipped}
+use Rattle.definitions.specs.Rows.{LotRow}
+use Rattle.page_rows.specs.Keyed.{IsSorted, put_row}
+use Rattle.page_rows.specs.OfPairs.{of_pair, date_of_pair, one, since, amount, is_row, named_by}
+use Rattle.page_rows.proofs.Dates.{date_put}
+use Rattle.page_rows.proofs.KeyLemmas.{put_sorted, of_pair_put, sorted_distinct}
+use Rattle.page_rows.proofs.OfPairLemmas.{pair_is, of_pair_cons, part_yes, part_no}
 
 -- the row of a pair with a date, a number and amounts
 abbrev row_for : (List ℕ → List ℕ → Option (List ℕ)) → (List ℕ → List ℕ → ℕ) → (Column → List ℕ → List ℕ → ℕ) → List ℕ → List ℕ → LotRow

@@ -7,11 +7,11 @@ use Rattle.std.specs.List.{HoldsAt}
 use Rattle.std.specs.List.Sorted.{IsBinarySearchResult, IsSearchInRange, IsPartitionPoint, IsNonDecreasingBy}
 use Rattle.std.specs.Ordering.{is_lt, nat_cmp, ordering_index, ordering_reverse}
 use Rattle.std.specs.declared.cmp.Ordering.TheVariants.{Less, Equal, Greater}
-use Rattle.profile.specs.Bytes.{comes_before}
-use Rattle.goods.specs.Keyed.{put_by, rises_by, text_order, IsRank}
-use Rattle.goods.proofs.Orders.{IsStrict}
-use Rattle.goods.proofs.Texts.{texts_total}
-use Rattle.goods.proofs.Keys.{IsTest, at_set, none_apart, rank_below, rank_insert, rank_none, rises_at}
+use Rattle.definitions.specs.Bytes.{comes_before}
+use Rattle.page_rows.specs.Keyed.{put_by, rises_by, text_order, IsRank}
+use Rattle.page_rows.proofs.Orders.{IsStrict}
+use Rattle.page_rows.proofs.Texts.{texts_total}
+use Rattle.page_rows.proofs.Keys.{IsTest, at_set, none_apart, rank_below, rank_insert, rank_none, rises_at}
 use Rattle.stock.specs.Searching.{FoundAt, put_at}
 
 -- the order tells how an element's key stands to this one

@@ -4,16 +4,16 @@ use Rattle.std.proofs.lemmas.Bool.{cases_Bool, both_ways, and_parts, eqb-true, e
 use Rattle.std.proofs.lemmas.Slice.Eq.{bytes_eq-Decides}
 use Rattle.std.specs.Prelude.{filter, find, fold, bytes_eq, nat_lt}
 use Rattle.std.specs.List.{list_all}
-use Rattle.profile.specs.Bytes.{comes_before}
-use Rattle.profile.specs.Page.{PageAdvice, PageOrder, PageDocument}
-use Rattle.profile.specs.Rows.{LotRow}
-use Rattle.goods.specs.Keyed.{put_by, rises_by, key_before, row_key, put_row, shipment_of, put_advice, number_of, put_order, entry_of, put_document}
-use Rattle.goods.specs.Pages.{PageFacts, AreSorted, is_shipment, advice_at, is_number, order_at, is_document, document_at}
+use Rattle.definitions.specs.Bytes.{comes_before}
+use Rattle.definitions.specs.Page.{PageAdvice, PageOrder, PageDocument}
+use Rattle.definitions.specs.Rows.{LotRow}
+use Rattle.page_rows.specs.Keyed.{put_by, rises_by, key_before, row_key, put_row, shipment_of, put_advice, number_of, put_order, entry_of, put_document}
+use Rattle.page_rows.specs.Pages.{PageFacts, AreSorted, is_shipment, advice_at, is_number, order_at, is_document, document_at}
 use Rattle.stock.specs.Parts.{Named, part_of}
 use Rattle.stock.specs.Puts.{nothing_yet}
-use Rattle.goods.proofs.Orders.{IsStrict}
-use Rattle.goods.proofs.Keys.{IsTest, all_filter, put_front, find_above}
-use Rattle.goods.proofs.KeyLemmas.{texts_strict, pairs_strict, numbers_strict, shipment_test, number_test, document_test}
+use Rattle.page_rows.proofs.Orders.{IsStrict}
+use Rattle.page_rows.proofs.Keys.{IsTest, all_filter, put_front, find_above}
+use Rattle.page_rows.proofs.KeyLemmas.{texts_strict, pairs_strict, numbers_strict, shipment_test, number_test, document_test}
 
 -- What is kept of a list.
 

@@ -7,29 +7,29 @@ use Rattle.std.proofs.lemmas.List.Sums.{sum_by-cons}
 use Rattle.std.specs.Cmp.Derive.{both_true}
 use Rattle.std.proofs.lemmas.List.{length-map}
 use Rattle.std.proofs.lemmas.List.Elements.{All-cons, All-nil, All-map}
-use Rattle.profile.specs.declared.rules.Rules.{Rules}
-use Rattle.profile.specs.declared.rules.Rules.TheVariants.{One, Two}
-use Rattle.profile.specs.declared.widths.TheConstants.{QUANTITY_DIGITS_TWO}
-use Rattle.profile.specs.Allotment.{order_shares}
-use Rattle.profile.specs.Bytes.{Delims, value, is_identifier}
-use Rattle.profile.specs.Cut.{Segment, cut, element, has_id, places_of}
-use Rattle.profile.specs.Events.{Event, Advised, Ordered, Acknowledged, advice_fault, order_fault}
-use Rattle.profile.specs.Faults.{SetFault, set_fault}
-use Rattle.profile.specs.History.{Rejection, unless, traded, judged, by_segment, outcome_of, event_of, verdicts_on, telling_of, events_told, tellings_on, events_added}
-use Rattle.profile.specs.Limits.{most_lines, most_quantity, most_recounted, most_item, most_lot, most_number, most_sets}
-use Rattle.profile.specs.Header.{delims_of}
-use Rattle.profile.specs.declared.refusals.Refusal.{Refusal}
-use Rattle.profile.specs.Register.{Act, Count, Pick, Recount, Received, Performed}
-use Rattle.profile.specs.Clerk.{quantity_limit, least_quantity, is_sheet_line, is_sheet, is_ascending, is_act, performed}
-use Rattle.profile.specs.declared.sheet_kind.SheetKind.{SheetKind as Sheets}
-use Rattle.profile.specs.declared.sheet_kind.SheetKind.TheVariants.{Count as CountSheet, Pick as PickSheet, Recount as RecountSheet}
-use Rattle.profile.specs.declared.set_kind.SetKind.{SetKind}
-use Rattle.profile.specs.declared.set_kind.SetKind.TheVariants.{ShipmentAdvice, ShippingOrder, FunctionalAcknowledgment}
-use Rattle.profile.specs.Means.{Line, AdviceLine, advice_of, advice_line, order_of, acknowledgment_of, segment_at}
-use Rattle.profile.specs.Structure.{Set, Group, kind_of, group_fault, examined, examined_on, groups_of, control_of}
-use Rattle.profile.specs.Words.{kind_words, words_943}
-use Rattle.profile.proofs.FaultsLaws.{set_fault-from}
-use Rattle.profile.proofs.LaterLaws.{set_fault-later}
+use Rattle.definitions.specs.declared.rules.Rules.{Rules}
+use Rattle.definitions.specs.declared.rules.Rules.TheVariants.{One, Two}
+use Rattle.definitions.specs.declared.widths.TheConstants.{QUANTITY_DIGITS_TWO}
+use Rattle.definitions.specs.Allotment.{order_shares}
+use Rattle.definitions.specs.Bytes.{Delims, value, is_identifier}
+use Rattle.definitions.specs.Cut.{Segment, cut, element, has_id, places_of}
+use Rattle.definitions.specs.Events.{Event, Advised, Ordered, Acknowledged, advice_fault, order_fault}
+use Rattle.definitions.specs.Faults.{SetFault, set_fault}
+use Rattle.definitions.specs.History.{Rejection, unless, traded, judged, by_segment, outcome_of, event_of, verdicts_on, telling_of, events_told, tellings_on, events_added}
+use Rattle.definitions.specs.Limits.{most_lines, most_quantity, most_recounted, most_item, most_lot, most_number, most_sets}
+use Rattle.definitions.specs.Header.{delims_of}
+use Rattle.definitions.specs.declared.refusals.Refusal.{Refusal}
+use Rattle.definitions.specs.Register.{Act, Count, Pick, Recount, Received, Performed}
+use Rattle.definitions.specs.Clerk.{quantity_limit, least_quantity, is_sheet_line, is_sheet, is_ascending, is_act, performed}
+use Rattle.definitions.specs.declared.sheet_kind.SheetKind.{SheetKind as Sheets}
+use Rattle.definitions.specs.declared.sheet_kind.SheetKind.TheVariants.{Count as CountSheet, Pick as PickSheet, Recount as RecountSheet}
+use Rattle.definitions.specs.declared.set_kind.SetKind.{SetKind}
+use Rattle.definitions.specs.declared.set_kind.SetKind.TheVariants.{ShipmentAdvice, ShippingOrder, FunctionalAcknowledgment}
+use Rattle.definitions.specs.Means.{Line, AdviceLine, advice_of, advice_line, order_of, acknowledgment_of, segment_at}
+use Rattle.definitions.specs.Structure.{Set, Group, kind_of, group_fault, examined, examined_on, groups_of, control_of}
+use Rattle.definitions.specs.Words.{kind_words, words_943}
+use Rattle.definitions.proofs.FaultsLaws.{set_fault-from}
+use Rattle.definitions.proofs.LaterLaws.{set_fault-later}
 use Rattle.sets_in.specs.Amounts.{HaveAmounts}
 use Rattle.sets_in.specs.Places.{places_from}
 use Rattle.sets_in.proofs.Meaning.{at}
@@ -37,11 +37,11 @@ use Rattle.sets_in.proofs.Most.{few_goods}
 use Rattle.sets_in.proofs.Places.{from_yes, from_no}
 use Rattle.sets_in.proofs.Sound.{goods_amounts}
 use Rattle.sets_in.proofs.Values.{amount_bound}
-use Rattle.goods.specs.Pages.{PageFacts, IsSound}
+use Rattle.page_rows.specs.Pages.{PageFacts, IsSound}
 use Rattle.stock.specs.Shows.{Shows}
 use Rattle.stock.proofs.OneAct.{counted_more, picked_more, recounted_more}
 use Rattle.stock.proofs.OneMore.{IsOneMore, announced_more, ordered_more, acknowledged_more}
-use Rattle.goods.proofs.Pairs.{IsSheet, sheet_facts}
+use Rattle.page_rows.proofs.Pairs.{IsSheet, sheet_facts}
 
 -- What an advice without a fault says is little.
 

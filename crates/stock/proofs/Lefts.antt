@@ -3,18 +3,18 @@ use Rattle.std.proofs.Common.{◌≡◌, ℕ, zero, suc, ◌+◌, ◌<◌, ◌�
 use Rattle.std.proofs.lemmas.Bool.{cases_Bool, cases_eq, both_ways, eqb-true, eqb-false}
 use Rattle.std.proofs.lemmas.List.{get_or-map, get_or-set_same, get_or-set_other, length-set, length-map}
 use Rattle.std.specs.Prelude.{nat_le}
-use Rattle.profile.specs.Events.{is_pair, quantity_of}
-use Rattle.profile.specs.Means.{Line}
-use Rattle.profile.specs.Rows.{LotRow}
-use Rattle.goods.specs.Keyed.{IsSorted}
+use Rattle.definitions.specs.Events.{is_pair, quantity_of}
+use Rattle.definitions.specs.Means.{Line}
+use Rattle.definitions.specs.Rows.{LotRow}
+use Rattle.page_rows.specs.Keyed.{IsSorted}
 use Rattle.stock.specs.Left.{IsLeft, IsLess}
-use Rattle.goods.specs.Moved.{IsPlace}
-use Rattle.goods.specs.OfPairs.{blank, is_row, one, of_pair}
-use Rattle.goods.proofs.KeyLemmas.{sorted_distinct}
-use Rattle.goods.proofs.Pairs.{quantity_no, quantity_yes}
+use Rattle.page_rows.specs.Moved.{IsPlace}
+use Rattle.page_rows.specs.OfPairs.{blank, is_row, one, of_pair}
+use Rattle.page_rows.proofs.KeyLemmas.{sorted_distinct}
+use Rattle.page_rows.proofs.Pairs.{quantity_no, quantity_yes}
 use Rattle.stock.proofs.SoundLaws.{all_open, at_most, every_open, open_pass, opens, taken_next, taken_sum}
-use Rattle.goods.proofs.Sums.{own_pair, quantity_as, share}
-use Rattle.goods.proofs.OfPairLemmas.{part_no, part_yes, pair_is, row_as_line, of_pair_absent, of_pair_cons, of_pair_here, of_pair_there}
+use Rattle.page_rows.proofs.Sums.{own_pair, quantity_as, share}
+use Rattle.page_rows.proofs.OfPairLemmas.{part_no, part_yes, pair_is, row_as_line, of_pair_absent, of_pair_cons, of_pair_here, of_pair_there}
 
 -- a pair that is told of has a row
 pub place_found : (a b : List ℕ) (rows : List LotRow) → 1 ≤ of_pair one a b rows → (i : ℕ) × IsPlace a b rows i

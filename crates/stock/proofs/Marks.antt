@@ -4,18 +4,18 @@ use Rattle.std.proofs.lemmas.Bool.{cases_Bool, eqb-true, ne_eqb}
 use Rattle.std.proofs.lemmas.List.{take_more}
 use Rattle.std.proofs.lemmas.List.Folds.{list_any-append, list_any_at}
 use Rattle.std.specs.List.{list_any}
-use Rattle.profile.specs.Lists.{or_else}
-use Rattle.profile.specs.Rows.{LotRow}
-use Rattle.profile.specs.Means.{Line}
-use Rattle.profile.specs.Events.{is_pair}
-use Rattle.profile.specs.Movements.{Column, Expected, OnHand, Reservation, Shipped}
-use Rattle.goods.specs.OfPairs.{is_row, of_pair, one, since, amount, named_by, marked, positive, first_number}
-use Rattle.goods.specs.Keyed.{IsSorted}
-use Rattle.goods.specs.Moved.{IsPlace, IsMarked}
-use Rattle.goods.proofs.Dates.{date_kept}
-use Rattle.goods.proofs.KeyLemmas.{sorted_distinct, sorted_kept}
-use Rattle.goods.proofs.OfPairLemmas.{part, part_yes, part_no, of_pair_set, of_pair_kept, of_pair_here, row_at, row_as_line}
-use Rattle.goods.proofs.Sums.{own_pair}
+use Rattle.definitions.specs.Lists.{or_else}
+use Rattle.definitions.specs.Rows.{LotRow}
+use Rattle.definitions.specs.Means.{Line}
+use Rattle.definitions.specs.Events.{is_pair}
+use Rattle.definitions.specs.Movements.{Column, Expected, OnHand, Reservation, Shipped}
+use Rattle.page_rows.specs.OfPairs.{is_row, of_pair, one, since, amount, named_by, marked, positive, first_number}
+use Rattle.page_rows.specs.Keyed.{IsSorted}
+use Rattle.page_rows.specs.Moved.{IsPlace, IsMarked}
+use Rattle.page_rows.proofs.Dates.{date_kept}
+use Rattle.page_rows.proofs.KeyLemmas.{sorted_distinct, sorted_kept}
+use Rattle.page_rows.proofs.OfPairLemmas.{part, part_yes, part_no, of_pair_set, of_pair_kept, of_pair_here, row_at, row_as_line}
+use Rattle.page_rows.proofs.Sums.{own_pair}
 
 pub first_no : (n x : ℕ) → first_number n false x ≡ x
 first_no n x = elim (cases_Bool (eqb x 0)) [ inl e ↦ rw e (sym (eqb-true x 0 e)) | inr e ↦ rw e refl ]

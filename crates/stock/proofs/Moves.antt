@@ -6,14 +6,14 @@ use Rattle.std.proofs.lemmas.List.Sums.{sum_by-cons, sum_by-append, sum_by-le, s
 use Rattle.std.proofs.lemmas.List.Elements.{filter-append}
 use Rattle.std.proofs.lemmas.Grind.{flat_map-append}
 use Rattle.std.specs.Prelude.{sum_by, filter, flat_map, bytes_eq}
-use Rattle.profile.specs.declared.rules.Rules.TheVariants.{Two}
-use Rattle.profile.specs.Means.{Line, AdviceLine, Advice, advised, OrderLine}
-use Rattle.profile.specs.Limits.{most_lines, most_quantity}
-use Rattle.profile.specs.Events.{Event, is_pair, quantity_of}
-use Rattle.profile.specs.Movements.{Column, column_eq, Movement, comes, goes, moves, came_to, went_from}
-use Rattle.goods.specs.OfPairs.{given}
+use Rattle.definitions.specs.Rules.{Today}
+use Rattle.definitions.specs.Means.{Line, AdviceLine, Advice, advised, OrderLine}
+use Rattle.definitions.specs.Limits.{most_lines, most_quantity}
+use Rattle.definitions.specs.Events.{Event, is_pair, quantity_of}
+use Rattle.definitions.specs.Movements.{Column, column_eq, Movement, comes, goes, moves, came_to, went_from}
+use Rattle.page_rows.specs.OfPairs.{given}
 use Rattle.sets_in.specs.Limits.{HasFewLines, HasFewOrderLines}
-use Rattle.goods.proofs.Sums.{share, quantity_as}
+use Rattle.page_rows.proofs.Sums.{share, quantity_as}
 
 pub sum_by-filter : {X : Type 0} (f : X → ℕ) (p : X → Bool) (xs : List X) → sum_by f (filter p xs) ≡ sum_by (λ x. cond (p x) (f x) 0) xs
 sum_by-filter f p [] = refl
@@ -106,25 +106,25 @@ pub given_le : (k : Column) (lines : List Line) (c : Column) (a b : List ℕ) �
 given_le k lines c a b = elim (cases_Bool (column_eq k c)) [ inl e ↦ rw e (quantity_le lines a b) | inr e ↦ rw e (omega arith) ]
 
 -- an advice brings little
-pub advised_le : (a : Advice) → HasFewLines a.lines → sum_by (λ l. l.quantity) (advised a) ≤ most_lines Two * (most_quantity Two)
-advised_le a few = omega (arith, sum_by-map (λ (l : Line). l.quantity) (λ (l : AdviceLine). l.line) a.lines, sum_by-le (λ (l : AdviceLine). l.line.quantity) (most_quantity Two) a.lines few.small, few.few)
+pub advised_le : (a : Advice) → HasFewLines a.lines → sum_by (λ l. l.quantity) (advised a) ≤ most_lines Today * (most_quantity Today)
+advised_le a few = omega (arith, sum_by-map (λ (l : Line). l.quantity) (λ (l : AdviceLine). l.line) a.lines, sum_by-le (λ (l : AdviceLine). l.line.quantity) (most_quantity Today) a.lines few.small, few.few)
 
 pub total_fits : (lines : List AdviceLine) (i : ℕ) (l : AdviceLine) → HasFewLines lines → i < length lines → l ≡ get_or lines i l
-    → sum_by (λ x. x.line.quantity) (take i lines) + l.line.quantity ≤ most_lines Two * (most_quantity Two)
+    → sum_by (λ x. x.line.quantity) (take i lines) + l.line.quantity ≤ most_lines Today * (most_quantity Today)
 total_fits lines i l few within is = omega (
   arith,
   sum_by_more_le (λ (x : AdviceLine). x.line.quantity) lines i l within,
   ap (λ (x : AdviceLine). x.line.quantity) is,
-  sum_by-le (λ (l : AdviceLine). l.line.quantity) (most_quantity Two) lines few.small,
+  sum_by-le (λ (l : AdviceLine). l.line.quantity) (most_quantity Today) lines few.small,
   few.few,
 )
 
 pub order_fits : (lines : List OrderLine) (i : ℕ) (l : OrderLine) → HasFewOrderLines lines → i < length lines → l ≡ get_or lines i l
-    → sum_by (λ x. x.quantity) (take i lines) + l.quantity ≤ most_lines Two * (most_quantity Two)
+    → sum_by (λ x. x.quantity) (take i lines) + l.quantity ≤ most_lines Today * (most_quantity Today)
 order_fits lines i l few within is = omega (
   arith,
   sum_by_more_le (λ (x : OrderLine). x.quantity) lines i l within,
   ap (λ (x : OrderLine). x.quantity) is,
-  sum_by-le (λ (l : OrderLine). l.quantity) (most_quantity Two) lines few.small,
+  sum_by-le (λ (l : OrderLine). l.quantity) (most_quantity Today) lines few.small,
   few.few,
 )

@@ -4,27 +4,27 @@ use Rattle.std.proofs.lemmas.Bool.{cases_Bool, eqb-false}
 use Rattle.std.proofs.lemmas.Slice.Eq.{bytes_eq-Decides}
 use Rattle.std.specs.Prelude.{codes}
 use Rattle.std.specs.List.{list_any, list_all}
-use Rattle.profile.specs.Limits.{most_sets}
-use Rattle.profile.specs.Events.{Event, Counted, Picked, Recounted, is_pair, quantity_of}
-use Rattle.profile.specs.Clerk.{counted, picked, recounted, on_hand_now}
-use Rattle.profile.specs.Means.{Line}
-use Rattle.profile.specs.Movements.{Column, Expected, OnHand, Reservation, Shipped, column_eq}
-use Rattle.profile.specs.Page.{PageAdvice, PageOrder}
-use Rattle.profile.specs.Rows.{LotRow}
-use Rattle.goods.specs.Keyed.{put_advice, put_order}
-use Rattle.goods.specs.Moved.{IsCounted, IsShipped, SetsOnHand, set_by}
-use Rattle.goods.specs.Pages.{PageFacts, IsSound, is_shipment, is_number, advice_at, order_at}
+use Rattle.definitions.specs.Limits.{most_sets}
+use Rattle.definitions.specs.Events.{Event, Counted, Picked, Recounted, is_pair, quantity_of}
+use Rattle.definitions.specs.Clerk.{counted, picked, recounted, on_hand_now}
+use Rattle.definitions.specs.Means.{Line}
+use Rattle.definitions.specs.Movements.{Column, Expected, OnHand, Reservation, Shipped, column_eq}
+use Rattle.definitions.specs.Page.{PageAdvice, PageOrder}
+use Rattle.definitions.specs.Rows.{LotRow}
+use Rattle.page_rows.specs.Keyed.{put_advice, put_order}
+use Rattle.page_rows.specs.Moved.{IsCounted, IsShipped, SetsOnHand, set_by}
+use Rattle.page_rows.specs.Pages.{PageFacts, IsSound, is_shipment, is_number, advice_at, order_at}
 use Rattle.stock.specs.Shows.{Shows}
-use Rattle.goods.specs.Steps.{closed_advice, closed_order, with_sent, exceeds, is_unknown, is_below, is_on_hand, IsReceived, IsPicked, IsRecounted}
-use Rattle.goods.specs.OfPairs.{of_pair, date_of_pair, one, since, amount, given, first_number}
-use Rattle.goods.proofs.Dates.{date_absent}
+use Rattle.page_rows.specs.Steps.{closed_advice, closed_order, with_sent, exceeds, is_unknown, is_below, is_on_hand, IsReceived, IsPicked, IsRecounted}
+use Rattle.page_rows.specs.OfPairs.{of_pair, date_of_pair, one, since, amount, given, first_number}
+use Rattle.page_rows.proofs.Dates.{date_absent}
 use Rattle.stock.proofs.Existing.{rows_made}
-use Rattle.goods.proofs.Pairs.{IsSheet}
-use Rattle.goods.proofs.Finds.{found_says}
+use Rattle.page_rows.proofs.Pairs.{IsSheet}
+use Rattle.page_rows.proofs.Finds.{found_says}
 use Rattle.stock.proofs.Corrects.{recounted_unknown, recounted_below, recounted_same, recounted_ok, recounted_sound, recounted_shows}
 use Rattle.stock.proofs.Ships.{held_there, within_reserved, order_known, picked_unknown, picked_closed, picked_excess, picked_ok, picked_sound, picked_shows}
 use Rattle.stock.proofs.Receives.{given_at_most, expected_there, advice_known, counted_unknown, counted_closed, counted_ok, received_sound, received_shows}
-use Rattle.goods.proofs.OfPairLemmas.{of_pair_absent, pair_is}
+use Rattle.page_rows.proofs.OfPairLemmas.{of_pair_absent, pair_is}
 use Rattle.stock.proofs.OneMore.{IsOneMore, neither, unnamed}
 
 -- A count.

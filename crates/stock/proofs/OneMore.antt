@@ -5,38 +5,38 @@ use Rattle.std.specs.Prelude.{length, All, map}
 use Rattle.std.proofs.lemmas.List.{length-map}
 use Rattle.std.proofs.lemmas.List.Elements.{All-map}
 use Rattle.std.specs.List.{list_any}
-use Rattle.profile.specs.declared.rules.Rules.{Rules}
-use Rattle.profile.specs.declared.rules.Rules.TheVariants.{Two}
-use Rattle.profile.specs.Events.{Event, Advised, Ordered, Acknowledged, is_pair, quantity_of, date_given, advice_fault, order_fault}
-use Rattle.profile.specs.Allotment.{order_shares}
-use Rattle.profile.specs.Lists.{or_else}
-use Rattle.profile.specs.Limits.{most_lines, most_quantity, most_sets}
-use Rattle.profile.specs.Means.{Line, AdviceLine, Advice, advised, Order, Acknowledgment}
-use Rattle.profile.specs.Movements.{Column, Expected, Reservation}
-use Rattle.profile.specs.Page.{reserved_lines}
-use Rattle.profile.specs.Rows.{LotRow}
+use Rattle.definitions.specs.declared.rules.Rules.{Rules}
+use Rattle.definitions.specs.Rules.{Today}
+use Rattle.definitions.specs.Events.{Event, Advised, Ordered, Acknowledged, is_pair, quantity_of, date_given, advice_fault, order_fault}
+use Rattle.definitions.specs.Allotment.{order_shares}
+use Rattle.definitions.specs.Lists.{or_else}
+use Rattle.definitions.specs.Limits.{most_lines, most_quantity, most_sets}
+use Rattle.definitions.specs.Means.{Line, AdviceLine, Advice, advised, Order, Acknowledgment}
+use Rattle.definitions.specs.Movements.{Column, Expected, Reservation}
+use Rattle.definitions.specs.Page.{reserved_lines}
+use Rattle.definitions.specs.Rows.{LotRow}
 use Rattle.sets_in.specs.Limits.{HasFewLines}
-use Rattle.goods.specs.Keyed.{put_advice, put_order}
-use Rattle.goods.specs.Lots.{all_shares_in}
-use Rattle.goods.specs.Moved.{IsAdded, IsAdvised}
-use Rattle.goods.specs.Pages.{PageFacts, IsSound, advice_at, order_at}
+use Rattle.page_rows.specs.Keyed.{put_advice, put_order}
+use Rattle.page_rows.specs.Lots.{all_shares_in}
+use Rattle.page_rows.specs.Moved.{IsAdded, IsAdvised}
+use Rattle.page_rows.specs.Pages.{PageFacts, IsSound, advice_at, order_at}
 use Rattle.stock.specs.Puts.{put}
 use Rattle.stock.specs.Shows.{Shows}
-use Rattle.goods.specs.Steps.{opened, opened_order, IsAnnounced, IsReserved, IsAcknowledged}
+use Rattle.page_rows.specs.Steps.{opened, opened_order, IsAnnounced, IsReserved, IsAcknowledged}
 use Rattle.stock.specs.Stops.{document_changes}
-use Rattle.goods.specs.OfPairs.{of_pair, date_of_pair, one, since, amount, given, named_by, date_of}
+use Rattle.page_rows.specs.OfPairs.{of_pair, date_of_pair, one, since, amount, given, named_by, date_of}
 use Rattle.stock.proofs.Acknowledges.{acknowledged_put, acknowledged_sound, acknowledged_shows}
 use Rattle.stock.proofs.Allots.{IsAllotted, allotted}
 use Rattle.stock.proofs.Announces.{announced_sound, announced_shows, advice_fault_shown, advice_unknown}
 use Rattle.stock.proofs.Dated.{no_date}
-use Rattle.goods.proofs.Dates.{date_absent}
+use Rattle.page_rows.proofs.Dates.{date_absent}
 use Rattle.stock.proofs.Existing.{rows_made}
 use Rattle.stock.proofs.PartShares.{opened_in_lines}
-use Rattle.goods.proofs.Pairs.{quantity_no}
+use Rattle.page_rows.proofs.Pairs.{quantity_no}
 use Rattle.stock.proofs.Receives.{given_at_most}
 use Rattle.stock.proofs.Reserves.{reserved_sound, reserved_shows, order_fault_shown, order_unknown, order_items_once}
 use Rattle.stock.proofs.ShownShares.{all_shares_shown}
-use Rattle.goods.proofs.OfPairLemmas.{of_pair_absent}
+use Rattle.page_rows.proofs.OfPairLemmas.{of_pair_absent}
 
 -- a page that stands for one event more
 pub record IsOneMore (p : PageFacts) (es : List Event) (e : Event) (q : PageFacts) : Type 0 where
@@ -121,17 +121,17 @@ advised_placeless ls old new step = record {
   named = λ a b. step.named a b ∙ ap (λ (goods : List Line). max (of_pair one a b old) (named_by goods a b)) (sym (same_lines ls));
 }
 
-little : (ls : List AdviceLine) → length ls ≤ most_lines Two → All (λ (l : AdviceLine). l.line.quantity ≤ most_quantity Two) ls
+little : (ls : List AdviceLine) → length ls ≤ most_lines Today → All (λ (l : AdviceLine). l.line.quantity ≤ most_quantity Today) ls
     → HasFewLines (map placeless ls)
 unfolding placeless
 little ls few small = record {
   few = omega (arith, few, length-map ls placeless);
-  small = All-map (λ (l : AdviceLine). l.line.quantity ≤ most_quantity Two) placeless ls small;
+  small = All-map (λ (l : AdviceLine). l.line.quantity ≤ most_quantity Today) placeless ls small;
   placed = All-map (λ (l : AdviceLine). l.position < 2 ^ 32 - 1) placeless ls (λ i d within. omega arith);
 }
 
 pub announced_more : (p : PageFacts) (es : List Event) (a : Advice) → IsSound p → Shows p es → p.recent < most_sets
-    → length a.lines ≤ most_lines Two → All (λ (l : AdviceLine). l.line.quantity ≤ most_quantity Two) a.lines
+    → length a.lines ≤ most_lines Today → All (λ (l : AdviceLine). l.line.quantity ≤ most_quantity Today) a.lines
     → advice_fault es a ≡ None
     → (q : PageFacts) × IsOneMore p es (Advised a) q
 announced_more p es a sound shows room few small none =

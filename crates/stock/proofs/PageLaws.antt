@@ -2,17 +2,17 @@
 use Rattle.std.proofs.Common.{◌≡◌, ℕ, ◌<◌, ◌^◌, Bool, true, false, not, ◌&&◌, List, ◌++◌, refl, ap, sym, ◌∙◌, arith, inl, inr, Option, Some, None, Ok, Err}
 use Rattle.std.proofs.lemmas.Bool.{cases_Bool}
 use Rattle.std.specs.List.{list_any}
-use Rattle.profile.specs.Clerk.{counted, picked}
-use Rattle.profile.specs.Lists.{or_else}
-use Rattle.profile.specs.Events.{Event, Reserved, expiry, counts, picks, advice_under, order_under, is_advice_open, is_order_open}
+use Rattle.definitions.specs.Clerk.{counted, picked}
+use Rattle.definitions.specs.Lists.{or_else}
+use Rattle.definitions.specs.Events.{Event, Reserved, expiry, counts, picks, advice_under, order_under, is_advice_open, is_order_open}
 use Rattle.std.specs.Prelude.{is_some}
-use Rattle.profile.specs.Means.{Line, Advice}
-use Rattle.profile.specs.Movements.{Column, OnHand, Reservation, IsCovered, balance}
-use Rattle.profile.specs.declared.refusals.Refusal.TheVariants.{UnknownAdvice, AdviceClosed, UnknownOrder, OrderClosed}
-use Rattle.profile.proofs.EventsLaws.{expiry-append}
-use Rattle.goods.specs.Pages.{PageFacts, IsSound}
+use Rattle.definitions.specs.Means.{Line, Advice}
+use Rattle.definitions.specs.Movements.{Column, OnHand, Reservation, IsCovered, balance}
+use Rattle.definitions.specs.declared.refusals.Refusal.TheVariants.{UnknownAdvice, AdviceClosed, UnknownOrder, OrderClosed}
+use Rattle.definitions.proofs.EventsLaws.{expiry-append}
+use Rattle.page_rows.specs.Pages.{PageFacts, IsSound}
 use Rattle.stock.specs.Shows.{Shows}
-use Rattle.goods.specs.OfPairs.{of_pair, date_of_pair, amount}
+use Rattle.page_rows.specs.OfPairs.{of_pair, date_of_pair, amount}
 
 pub balance_shows : (p : PageFacts) (es : List Event) → Shows p es → (c : Column) (a b : List ℕ) → of_pair (amount c) a b p.rows ≡ balance es c a b
 balance_shows p es shows c a b = omega (arith, shows.amounts c a b)

@@ -3,11 +3,11 @@ use Rattle.std.proofs.Common.{◌≡◌, ◌∙◌, ℕ, ◌+◌, ◌<◌, ◌�
 use Rattle.std.proofs.lemmas.Bool.{and_parts, le-leb, leb-true, lt-ltb}
 use Rattle.std.specs.List.{list_all}
 use Rattle.std.specs.Prelude.{nat_le, nat_lt}
-use Rattle.profile.specs.Limits.{most_entries}
-use Rattle.profile.specs.Events.{Event, Enrolment, Advised, Ordered, Acknowledged, Counted, Picked, Recounted}
-use Rattle.profile.specs.Movements.{OnHand, balance}
-use Rattle.goods.specs.OfPairs.{of_pair, amount}
-use Rattle.goods.specs.Pages.{PageFacts, IsSound, next_entry}
+use Rattle.definitions.specs.Limits.{most_entries}
+use Rattle.definitions.specs.Events.{Event, Enrolment, Advised, Ordered, Acknowledged, Counted, Picked, Recounted}
+use Rattle.definitions.specs.Movements.{OnHand, balance}
+use Rattle.page_rows.specs.OfPairs.{of_pair, amount}
+use Rattle.page_rows.specs.Pages.{PageFacts, IsSound, next_entry}
 use Rattle.stock.specs.Shows.{Shows, is_numbered_within}
 
 pub blank_sound : IsSound (record { rows = []; advices = []; orders = []; documents = []; entries = 0; recent = 0 })

@@ -5,21 +5,21 @@ use Rattle.std.proofs.lemmas.List.Sums.{sum_by-cons}
 use Rattle.std.proofs.lemmas.Slice.Eq.{bytes_eq-Decides}
 use Rattle.std.specs.Prelude.{filter, find, bytes_eq, sum_by}
 use Rattle.std.specs.List.{list_all}
-use Rattle.profile.specs.Events.{is_pair, quantity_of}
-use Rattle.profile.specs.Means.{Line}
-use Rattle.profile.specs.Movements.{Expected, OnHand, Reservation}
-use Rattle.profile.specs.Page.{PageAdvice, PageOrder, PageDocument}
-use Rattle.profile.specs.Rows.{LotRow}
-use Rattle.goods.specs.Keyed.{row_key, key_before, shipment_of, number_of, entry_of}
-use Rattle.profile.specs.Bytes.{comes_before}
+use Rattle.definitions.specs.Events.{is_pair, quantity_of}
+use Rattle.definitions.specs.Means.{Line}
+use Rattle.definitions.specs.Movements.{Expected, OnHand, Reservation}
+use Rattle.definitions.specs.Page.{PageAdvice, PageOrder, PageDocument}
+use Rattle.definitions.specs.Rows.{LotRow}
+use Rattle.page_rows.specs.Keyed.{row_key, key_before, shipment_of, number_of, entry_of}
+use Rattle.definitions.specs.Bytes.{comes_before}
 use Rattle.std.specs.Prelude.{nat_lt}
-use Rattle.goods.specs.Pages.{PageFacts, IsSound, AreSorted, is_in_lines, is_shipment, is_number, is_document, awaited, held}
+use Rattle.page_rows.specs.Pages.{PageFacts, IsSound, AreSorted, is_in_lines, is_shipment, is_number, is_document, awaited, held}
 use Rattle.stock.specs.Parts.{Named, IsPart, IsClosed, part_of, are_items}
-use Rattle.goods.specs.OfPairs.{is_row, of_pair, amount}
-use Rattle.goods.proofs.Keys.{all_filter, filter_rises}
-use Rattle.goods.proofs.KeyLemmas.{pairs_strict, texts_strict, numbers_strict, sorted_distinct, advices_once, orders_once, documents_once}
-use Rattle.goods.proofs.Pairs.{quantity_no}
-use Rattle.goods.proofs.OfPairLemmas.{of_pair_cons, part_no}
+use Rattle.page_rows.specs.OfPairs.{is_row, of_pair, amount}
+use Rattle.page_rows.proofs.Keys.{all_filter, filter_rises}
+use Rattle.page_rows.proofs.KeyLemmas.{pairs_strict, texts_strict, numbers_strict, sorted_distinct, advices_once, orders_once, documents_once}
+use Rattle.page_rows.proofs.Pairs.{quantity_no}
+use Rattle.page_rows.proofs.OfPairLemmas.{of_pair_cons, part_no}
 
 -- what is told of a pair whose item is named
 of_pair_kept : (q : List ℕ → Bool) (f : LotRow → ℕ) (a b : List ℕ) (rows : List LotRow) → q a ≡ true → of_pair f a b (filter (λ r. q r.item) rows) ≡ of_pair f a b rows

@@ -5,30 +5,30 @@ use Rattle.std.proofs.lemmas.Slice.Eq.{bytes_eq-Decides}
 use Rattle.std.specs.Prelude.{fold, bytes_eq, option_map}
 use Rattle.std.specs.Option.{option_or}
 use Rattle.std.specs.List.{list_any, list_all}
-use Rattle.profile.specs.Events.{is_pair}
-use Rattle.profile.specs.Means.{Line, Advice, advised, OrderLine, Order}
-use Rattle.profile.specs.Movements.{OnHand, Reservation}
-use Rattle.profile.specs.Rows.{LotRow}
-use Rattle.profile.specs.Page.{PageAdvice, PageOrder, PageDocument, reserved_lines}
+use Rattle.definitions.specs.Events.{is_pair}
+use Rattle.definitions.specs.Means.{Line, Advice, advised, OrderLine, Order}
+use Rattle.definitions.specs.Movements.{OnHand, Reservation}
+use Rattle.definitions.specs.Rows.{LotRow}
+use Rattle.definitions.specs.Page.{PageAdvice, PageOrder, PageDocument, reserved_lines}
 use Rattle.stock.specs.declared.steps.Change.{Change}
 use Rattle.stock.specs.declared.steps.Change.TheVariants as change
-use Rattle.goods.specs.Functions.{function_text}
-use Rattle.goods.specs.Pages.{PageFacts, AreSorted, document_at, is_document}
+use Rattle.page_rows.specs.Functions.{function_text}
+use Rattle.page_rows.specs.Pages.{PageFacts, AreSorted, document_at, is_document}
 use Rattle.stock.specs.Parts.{Named, all_named, IsPart, are_items, NamesAdvice}
 use Rattle.stock.specs.Puts.{put, put_change}
-use Rattle.goods.specs.declared.documents.Function.TheVariants.{Receipt, Shipment, Adjustment}
-use Rattle.goods.specs.Moved.{IsAdded, IsAdvised, IsCounted, IsShipped, SetsOnHand}
-use Rattle.goods.specs.Steps.{opened, opened_order, closed_advice, closed_order, with_said, said_of_found, is_unknown, is_below, is_on_hand, IsAnnounced, IsReserved, IsReceived, IsPicked, IsRecounted}
+use Rattle.page_rows.specs.declared.documents.Function.TheVariants.{Receipt, Shipment, Adjustment}
+use Rattle.page_rows.specs.Moved.{IsAdded, IsAdvised, IsCounted, IsShipped, SetsOnHand}
+use Rattle.page_rows.specs.Steps.{opened, opened_order, closed_advice, closed_order, with_said, said_of_found, is_unknown, is_below, is_on_hand, IsAnnounced, IsReserved, IsReceived, IsPicked, IsRecounted}
 use Rattle.stock.specs.Stops.{row_changes, advice_changes, order_changes}
-use Rattle.goods.specs.OfPairs.{is_row, of_pair, date_of_pair, one, since, amount, same_row, changed_rows}
+use Rattle.page_rows.specs.OfPairs.{is_row, of_pair, date_of_pair, one, since, amount, same_row, changed_rows}
 use Rattle.stock.specs.Touched.{IsTouched}
 use Rattle.stock.proofs.ChangeLaws.{same_is}
-use Rattle.goods.proofs.Dates.{same_dates_of}
-use Rattle.goods.proofs.KeyLemmas.{of_pair_put, advice_put, order_put, document_put, sent_found}
-use Rattle.goods.proofs.Finds.{found_says}
+use Rattle.page_rows.proofs.Dates.{same_dates_of}
+use Rattle.page_rows.proofs.KeyLemmas.{of_pair_put, advice_put, order_put, document_put, sent_found}
+use Rattle.page_rows.proofs.Finds.{found_says}
 use Rattle.stock.proofs.Leads.{touched_none, not_named, among_second}
 use Rattle.stock.proofs.Steppings.{Makes, change_sorted, announced_put, reserved_put, received_put, picked_put, recounted_put}
-use Rattle.goods.proofs.OfPairLemmas.{of_pair_cons, part_yes, part_no}
+use Rattle.page_rows.proofs.OfPairLemmas.{of_pair_cons, part_yes, part_no}
 
 -- a page is a part of itself
 pub part_of_self : (n : Named) (p : PageFacts) → AreSorted p → IsPart n p p

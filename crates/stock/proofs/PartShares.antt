@@ -3,28 +3,28 @@ use Rattle.std.proofs.Common.{◌≡◌, ℕ, true, List, [], ◌∷◌, ◌++�
 use Rattle.std.proofs.lemmas.Bool.{and_parts}
 use Rattle.std.specs.Prelude.{zip, filter}
 use Rattle.std.specs.List.{list_all}
-use Rattle.profile.specs.Lists.{in_order}
-use Rattle.profile.specs.declared.rules.Rules.{Rules}
-use Rattle.profile.specs.Allotment.{Ranked, ranks_before, allot, may_have}
-use Rattle.profile.specs.Events.{pair_before}
-use Rattle.profile.specs.Means.{Line, Order, OrderLine}
-use Rattle.profile.specs.Movements.{OnHand, Reservation}
-use Rattle.profile.specs.Page.{PageLine, page_line, reserved_lines}
-use Rattle.profile.specs.Bytes.{is_one_of}
-use Rattle.profile.proofs.TextLaws.{same_text}
-use Rattle.profile.proofs.NeedLaws.{or_left, or_right}
+use Rattle.definitions.specs.Lists.{in_order}
+use Rattle.definitions.specs.declared.rules.Rules.{Rules}
+use Rattle.definitions.specs.Allotment.{Ranked, ranks_before, allot, may_have}
+use Rattle.definitions.specs.Events.{pair_before}
+use Rattle.definitions.specs.Means.{Line, Order, OrderLine}
+use Rattle.definitions.specs.Movements.{OnHand, Reservation}
+use Rattle.definitions.specs.Page.{PageLine, page_line, reserved_lines}
+use Rattle.definitions.specs.Bytes.{is_one_of}
+use Rattle.definitions.proofs.TextLaws.{same_text}
+use Rattle.definitions.proofs.NeedLaws.{or_left, or_right}
 use Rattle.std.specs.Prelude.{bytes_eq}
 use Rattle.std.specs.Cmp.Derive.{both_true}
-use Rattle.goods.specs.Lots.{ranks_of, free_in, shares_in, all_shares_in}
-use Rattle.goods.specs.Pages.{PageFacts, is_in_lines}
+use Rattle.page_rows.specs.Lots.{ranks_of, free_in, shares_in, all_shares_in}
+use Rattle.page_rows.specs.Pages.{PageFacts, is_in_lines}
 use Rattle.stock.specs.Parts.{Named, IsPart, all_named, are_items}
-use Rattle.goods.specs.Steps.{opened_order}
-use Rattle.goods.specs.OfPairs.{amount, IsDistinct}
+use Rattle.page_rows.specs.Steps.{opened_order}
+use Rattle.page_rows.specs.OfPairs.{amount, IsDistinct}
 use Rattle.stock.proofs.Allots.{is_given, all_in_order}
-use Rattle.goods.proofs.Keys.{all_filter}
-use Rattle.goods.proofs.KeyLemmas.{sorted_distinct}
-use Rattle.goods.proofs.LotLemmas.{ranks_same}
-use Rattle.goods.proofs.Shares.{map_same}
+use Rattle.page_rows.proofs.Keys.{all_filter}
+use Rattle.page_rows.proofs.KeyLemmas.{sorted_distinct}
+use Rattle.page_rows.proofs.LotLemmas.{ranks_same}
+use Rattle.page_rows.proofs.Shares.{map_same}
 
 free_part : (n : Named) (p P : PageFacts) (item lot : List ℕ) → IsPart n p P → n.items item ≡ true → free_in p.rows item lot ≡ free_in P.rows item lot
 free_part n p P item lot part is = omega (arith, part.rows (amount OnHand) item lot is, part.rows (amount Reservation) item lot is)

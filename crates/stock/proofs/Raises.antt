@@ -3,17 +3,17 @@ use Rattle.std.proofs.Common.{◌≡◌, ℕ, ◌+◌, ◌<◌, ◌≤◌, true,
 use Rattle.std.proofs.lemmas.Bool.{cases_Bool}
 use Rattle.std.proofs.lemmas.List.{take_more}
 use Rattle.std.proofs.lemmas.List.Sums.{fold-append}
-use Rattle.profile.specs.Rows.{LotRow}
-use Rattle.profile.specs.Means.{Line}
-use Rattle.profile.specs.Events.{is_pair, quantity_of}
-use Rattle.profile.specs.Movements.{Column, Expected, OnHand, Reservation, Shipped, column_eq}
-use Rattle.goods.specs.OfPairs.{is_row, of_pair, one, since, amount, named_by, raised, with_on_hand, IsDistinct}
-use Rattle.goods.specs.Keyed.{IsSorted}
-use Rattle.goods.proofs.Dates.{date_kept}
-use Rattle.goods.proofs.KeyLemmas.{sorted_distinct, sorted_kept}
-use Rattle.goods.specs.Moved.{IsPlace, IsTaken, IsRaised, IsShipped, SetsOnHand, set_by}
-use Rattle.goods.proofs.OfPairLemmas.{part, part_yes, part_no, of_pair_set, of_pair_kept, of_pair_here, IsRowAt, row_at, row_as_line, of_pair_named, placed_there, added_at, given_one, of_pair_absent}
-use Rattle.goods.proofs.Sums.{given_append, given_here, quantity_next}
+use Rattle.definitions.specs.Rows.{LotRow}
+use Rattle.definitions.specs.Means.{Line}
+use Rattle.definitions.specs.Events.{is_pair, quantity_of}
+use Rattle.definitions.specs.Movements.{Column, Expected, OnHand, Reservation, Shipped, column_eq}
+use Rattle.page_rows.specs.OfPairs.{is_row, of_pair, one, since, amount, named_by, raised, with_on_hand, IsDistinct}
+use Rattle.page_rows.specs.Keyed.{IsSorted}
+use Rattle.page_rows.proofs.Dates.{date_kept}
+use Rattle.page_rows.proofs.KeyLemmas.{sorted_distinct, sorted_kept}
+use Rattle.page_rows.specs.Moved.{IsPlace, IsTaken, IsRaised, IsShipped, SetsOnHand, set_by}
+use Rattle.page_rows.proofs.OfPairLemmas.{part, part_yes, part_no, of_pair_set, of_pair_kept, of_pair_here, IsRowAt, row_at, row_as_line, of_pair_named, placed_there, added_at, given_one, of_pair_absent}
+use Rattle.page_rows.proofs.Sums.{given_append, given_here, quantity_next}
 use Rattle.stock.proofs.Marks.{named_own}
 
 pub raised_at : (k : Column) (line : Line) (rows : List LotRow) (i : ℕ) (r : LotRow) → IsSorted rows → IsPlace line.item line.lot rows i → r ≡ get_or rows i r

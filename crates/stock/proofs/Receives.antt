@@ -7,28 +7,28 @@ use Rattle.std.proofs.lemmas.Slice.Eq.{bytes_eq-Decides}
 use Rattle.std.specs.Prelude.{bytes_eq, option_map, flat_map, codes, nat_lt, nat_le}
 use Rattle.std.specs.Option.{option_or}
 use Rattle.std.specs.List.{list_any, list_all}
-use Rattle.profile.specs.Limits.{most_sets}
-use Rattle.profile.specs.Lists.{or_else}
-use Rattle.profile.specs.Means.{Line, Advice, advised}
-use Rattle.profile.specs.Rows.{named, said_of, acknowledges}
-use Rattle.profile.specs.declared.refusals.Refusal.TheVariants.{UnknownAdvice, AdviceClosed}
-use Rattle.profile.specs.Clerk.{counted}
-use Rattle.profile.specs.Page.{PageAdvice, PageOrder, PageDocument, page_advice}
-use Rattle.profile.specs.Events.{Event, Enrolment, Advised, Ordered, Acknowledged, Counted, Picked, Recounted, is_pair, quantity_of, advice_if, advice_under, counts, is_advice_open, count_naming, date_naming}
-use Rattle.profile.specs.Movements.{Column, Expected, OnHand, Reservation, column_eq, comes, goes}
-use Rattle.goods.specs.OfPairs.{of_pair, amount, since, given, named_by, positive}
-use Rattle.profile.specs.Bytes.{comes_before}
-use Rattle.goods.specs.Keyed.{rises_by, number_of, put_advice}
-use Rattle.goods.specs.Pages.{PageFacts, is_shipment, advice_at, order_at, document_at, awaited, held, IsSound, AreSorted, is_in_lines}
+use Rattle.definitions.specs.Limits.{most_sets}
+use Rattle.definitions.specs.Lists.{or_else}
+use Rattle.definitions.specs.Means.{Line, Advice, advised}
+use Rattle.definitions.specs.Rows.{named, said_of, acknowledges}
+use Rattle.definitions.specs.declared.refusals.Refusal.TheVariants.{UnknownAdvice, AdviceClosed}
+use Rattle.definitions.specs.Clerk.{counted}
+use Rattle.definitions.specs.Page.{PageAdvice, PageOrder, PageDocument, page_advice}
+use Rattle.definitions.specs.Events.{Event, Enrolment, Advised, Ordered, Acknowledged, Counted, Picked, Recounted, is_pair, quantity_of, advice_if, advice_under, counts, is_advice_open, count_naming, date_naming}
+use Rattle.definitions.specs.Movements.{Column, Expected, OnHand, Reservation, column_eq, comes, goes}
+use Rattle.page_rows.specs.OfPairs.{of_pair, amount, since, given, named_by, positive}
+use Rattle.definitions.specs.Bytes.{comes_before}
+use Rattle.page_rows.specs.Keyed.{rises_by, number_of, put_advice}
+use Rattle.page_rows.specs.Pages.{PageFacts, is_shipment, advice_at, order_at, document_at, awaited, held, IsSound, AreSorted, is_in_lines}
 use Rattle.stock.specs.Shows.{Shows, sent_if, sent_under, document_of, is_numbered_within}
-use Rattle.goods.specs.Steps.{closed_advice, with_sent, IsReceived}
-use Rattle.goods.proofs.Keys.{was}
-use Rattle.goods.proofs.KeyLemmas.{sorted_distinct, advice_sum, advice_put, advices_put_sorted, sent_sorted, sent_found, advices_once, orders_once, documents_once}
-use Rattle.goods.proofs.Sums.{named_append}
+use Rattle.page_rows.specs.Steps.{closed_advice, with_sent, IsReceived}
+use Rattle.page_rows.proofs.Keys.{was}
+use Rattle.page_rows.proofs.KeyLemmas.{sorted_distinct, advice_sum, advice_put, advices_put_sorted, sent_sorted, sent_found, advices_once, orders_once, documents_once}
+use Rattle.page_rows.proofs.Sums.{named_append}
 use Rattle.stock.proofs.Moves.{came_push, went_push, came_append, went_append, came_comes, went_comes, came_goes, went_goes}
-use Rattle.goods.proofs.Finds.{first_found_push, found_says, found_le, map_some, map_none}
+use Rattle.page_rows.proofs.Finds.{first_found_push, found_says, found_le, map_some, map_none}
 use Rattle.stock.proofs.PageLemmas.{all_numbered_same, own_number}
-use Rattle.goods.proofs.Pairs.{IsSheet}
+use Rattle.page_rows.proofs.Pairs.{IsSheet}
 use Rattle.stock.proofs.Views.{advice_seen, uncounted, advice_view, advice_found_under}
 use Rattle.stock.proofs.Events.{found_kept, any_push, all_push, order_kept, shares_kept, picked_kept}
 use Rattle.stock.proofs.Marks.{first_positive}

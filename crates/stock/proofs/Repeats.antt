@@ -5,17 +5,17 @@ use Rattle.std.proofs.lemmas.List.{take_more, map_push, drop_more}
 use Rattle.std.proofs.lemmas.Slice.Eq.{bytes_eq-Decides}
 use Rattle.std.specs.Prelude.{bytes_eq}
 use Rattle.std.specs.List.{list_any}
-use Rattle.profile.specs.Means.{Line, AdviceLine, OrderLine}
-use Rattle.profile.specs.Bytes.{is_one_of}
-use Rattle.profile.specs.Page.{PageLine}
-use Rattle.goods.specs.Soundness.{item_alone}
-use Rattle.profile.specs.Events.{is_pair, repeated, same_advice_pair, same_order_item}
-use Rattle.profile.specs.Rows.{LotRow}
-use Rattle.goods.specs.Keyed.{IsSorted}
-use Rattle.goods.specs.OfPairs.{of_pair, one, named_by, AreRowsOf}
-use Rattle.goods.specs.Moved.{IsPlace, IsPlaced}
-use Rattle.goods.proofs.Sums.{named_append}
-use Rattle.goods.proofs.OfPairLemmas.{of_pair_there}
+use Rattle.definitions.specs.Means.{Line, AdviceLine, OrderLine}
+use Rattle.definitions.specs.Bytes.{is_one_of}
+use Rattle.definitions.specs.Page.{PageLine}
+use Rattle.page_rows.specs.Soundness.{item_alone}
+use Rattle.definitions.specs.Events.{is_pair, repeated, same_advice_pair, same_order_item}
+use Rattle.definitions.specs.Rows.{LotRow}
+use Rattle.page_rows.specs.Keyed.{IsSorted}
+use Rattle.page_rows.specs.OfPairs.{of_pair, one, named_by, AreRowsOf}
+use Rattle.page_rows.specs.Moved.{IsPlace, IsPlaced}
+use Rattle.page_rows.proofs.Sums.{named_append}
+use Rattle.page_rows.proofs.OfPairLemmas.{of_pair_there}
 
 -- no row of a pair: none of the lines is of it
 pub none_among : (item lot : List ℕ) (lines : List Line) (rows : List LotRow) → AreRowsOf lines rows

@@ -4,23 +4,23 @@ use Rattle.std.proofs.lemmas.List.{append-nil}
 use Rattle.std.proofs.lemmas.Grind.{flat_map-append}
 use Rattle.std.specs.Prelude.{bytes_eq, is_some, option_map, flat_map, nat_lt}
 use Rattle.std.specs.Option.{option_or}
-use Rattle.profile.specs.Limits.{most_recounted, most_sets}
-use Rattle.profile.specs.Lists.{or_else}
-use Rattle.profile.specs.Means.{Line, Order}
-use Rattle.profile.specs.Rows.{named}
-use Rattle.profile.specs.Page.{PageAdvice, PageOrder, page_order, reserved_lines}
-use Rattle.profile.specs.Events.{Event, Ordered, quantity_of, order_if, order_under, Reserved, picks, count_naming, date_naming, order_fault, order_fault_where, repeated, same_order_item, repeated_item, wrong_order_total}
-use Rattle.profile.specs.Movements.{Column, Expected, OnHand, Reservation, Shipped}
-use Rattle.goods.specs.OfPairs.{of_pair, amount, given, named_by, positive}
-use Rattle.goods.specs.Pages.{PageFacts, advice_at, order_at, document_at, awaited, held, IsSound, AreSorted, is_in_lines}
+use Rattle.definitions.specs.Limits.{most_recounted, most_sets}
+use Rattle.definitions.specs.Lists.{or_else}
+use Rattle.definitions.specs.Means.{Line, Order}
+use Rattle.definitions.specs.Rows.{named}
+use Rattle.definitions.specs.Page.{PageAdvice, PageOrder, page_order, reserved_lines}
+use Rattle.definitions.specs.Events.{Event, Ordered, quantity_of, order_if, order_under, Reserved, picks, count_naming, date_naming, order_fault, order_fault_where, repeated, same_order_item, repeated_item, wrong_order_total}
+use Rattle.definitions.specs.Movements.{Column, Expected, OnHand, Reservation, Shipped}
+use Rattle.page_rows.specs.OfPairs.{of_pair, amount, given, named_by, positive}
+use Rattle.page_rows.specs.Pages.{PageFacts, advice_at, order_at, document_at, awaited, held, IsSound, AreSorted, is_in_lines}
 use Rattle.stock.specs.Shows.{Shows, is_numbered_within, NamesEachOnce}
-use Rattle.goods.specs.Steps.{opened_order, IsReserved}
+use Rattle.page_rows.specs.Steps.{opened_order, IsReserved}
 use Rattle.stock.proofs.Moves.{came_push, went_push, came_comes, went_comes}
-use Rattle.goods.proofs.Finds.{first_found_push, map_none}
-use Rattle.profile.specs.Bytes.{comes_before}
-use Rattle.goods.specs.Keyed.{rises_by, shipment_of, entry_of}
-use Rattle.goods.proofs.Keys.{was}
-use Rattle.goods.proofs.KeyLemmas.{sorted_distinct, order_sum, orders_put_in_lines, order_put_new, orders_put_sorted, advices_once, orders_once, documents_once}
+use Rattle.page_rows.proofs.Finds.{first_found_push, map_none}
+use Rattle.definitions.specs.Bytes.{comes_before}
+use Rattle.page_rows.specs.Keyed.{rises_by, shipment_of, entry_of}
+use Rattle.page_rows.proofs.Keys.{was}
+use Rattle.page_rows.proofs.KeyLemmas.{sorted_distinct, order_sum, orders_put_in_lines, order_put_new, orders_put_sorted, advices_once, orders_once, documents_once}
 use Rattle.stock.proofs.PageLemmas.{all_numbered_same}
 use Rattle.stock.proofs.Views.{order_seen, unpicked, order_view}
 use Rattle.stock.proofs.Events.{found_kept, or_else_left, any_kept, all_push, advice_kept, document_kept, counted_kept, picked_kept}

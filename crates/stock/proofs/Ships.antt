@@ -6,27 +6,27 @@ use Rattle.std.proofs.lemmas.Grind.{flat_map-append}
 use Rattle.std.proofs.lemmas.Slice.Eq.{bytes_eq-Decides}
 use Rattle.std.specs.Prelude.{bytes_eq, option_map, flat_map, count_by, codes}
 use Rattle.std.specs.List.{list_any, list_all}
-use Rattle.profile.specs.Limits.{most_sets}
-use Rattle.profile.specs.Means.{Line, Order}
-use Rattle.profile.specs.Rows.{named}
-use Rattle.profile.specs.declared.refusals.Refusal.TheVariants.{UnknownOrder, OrderClosed, NotReserved}
-use Rattle.profile.specs.Clerk.{picked}
-use Rattle.profile.specs.Page.{PageAdvice, PageOrder, page_order, reserved_lines}
-use Rattle.profile.specs.Events.{Event, Picked, is_pair, quantity_of, order_if, order_under, Reserved, picks, is_order_open, count_naming, date_naming}
-use Rattle.profile.specs.Movements.{Column, Expected, OnHand, Reservation, Shipped, comes, goes}
-use Rattle.goods.specs.OfPairs.{of_pair, amount, given, named_by, positive}
-use Rattle.profile.specs.Bytes.{comes_before}
-use Rattle.goods.specs.Keyed.{rises_by, shipment_of, put_order}
-use Rattle.goods.specs.Pages.{PageFacts, is_number, advice_at, order_at, awaited, held, IsSound, AreSorted}
-use Rattle.goods.proofs.Keys.{was}
-use Rattle.goods.proofs.KeyLemmas.{sorted_distinct, order_sum, orders_put_in_lines, order_put, orders_put_sorted, sent_sorted, advices_once, orders_once, documents_once}
+use Rattle.definitions.specs.Limits.{most_sets}
+use Rattle.definitions.specs.Means.{Line, Order}
+use Rattle.definitions.specs.Rows.{named}
+use Rattle.definitions.specs.declared.refusals.Refusal.TheVariants.{UnknownOrder, OrderClosed, NotReserved}
+use Rattle.definitions.specs.Clerk.{picked}
+use Rattle.definitions.specs.Page.{PageAdvice, PageOrder, page_order, reserved_lines}
+use Rattle.definitions.specs.Events.{Event, Picked, is_pair, quantity_of, order_if, order_under, Reserved, picks, is_order_open, count_naming, date_naming}
+use Rattle.definitions.specs.Movements.{Column, Expected, OnHand, Reservation, Shipped, comes, goes}
+use Rattle.page_rows.specs.OfPairs.{of_pair, amount, given, named_by, positive}
+use Rattle.definitions.specs.Bytes.{comes_before}
+use Rattle.page_rows.specs.Keyed.{rises_by, shipment_of, put_order}
+use Rattle.page_rows.specs.Pages.{PageFacts, is_number, advice_at, order_at, awaited, held, IsSound, AreSorted}
+use Rattle.page_rows.proofs.Keys.{was}
+use Rattle.page_rows.proofs.KeyLemmas.{sorted_distinct, order_sum, orders_put_in_lines, order_put, orders_put_sorted, sent_sorted, advices_once, orders_once, documents_once}
 use Rattle.stock.specs.Shows.{Shows, is_numbered_within, NamesEachOnce}
-use Rattle.goods.specs.Steps.{closed_order, exceeds, IsPicked}
+use Rattle.page_rows.specs.Steps.{closed_order, exceeds, IsPicked}
 use Rattle.stock.proofs.Moves.{came_push, went_push, came_append, went_append, came_comes, went_comes, came_goes, went_goes}
-use Rattle.goods.proofs.Finds.{found_says, found_le, map_some, map_none}
+use Rattle.page_rows.proofs.Finds.{found_says, found_le, map_some, map_none}
 use Rattle.stock.proofs.PageLemmas.{all_numbered_same, own_number}
-use Rattle.goods.proofs.Pairs.{IsSheet, count_yes, count_no, quantity_yes, quantity_no, quantity_none}
-use Rattle.goods.proofs.OfPairLemmas.{pair_is}
+use Rattle.page_rows.proofs.Pairs.{IsSheet, count_yes, count_no, quantity_yes, quantity_no, quantity_none}
+use Rattle.page_rows.proofs.OfPairLemmas.{pair_is}
 use Rattle.stock.proofs.Views.{order_seen, unpicked, order_view, order_found_under}
 use Rattle.stock.proofs.Events.{found_kept, any_push, all_push, advice_kept, counted_kept}
 use Rattle.stock.proofs.Receives.{given_at_most, sent_shown}

@@ -4,19 +4,19 @@ use Rattle.std.proofs.lemmas.Bool.{cases_Bool, both_ways, and_parts, ltb-true, l
 use Rattle.std.proofs.lemmas.Slice.Eq.{bytes_eq-Decides}
 use Rattle.std.specs.Prelude.{bytes_eq, filter, flat_map, unwrap_or}
 use Rattle.std.specs.List.{list_any}
-use Rattle.profile.specs.declared.rules.Rules.{Rules}
-use Rattle.profile.specs.Lists.{in_order, first_found}
-use Rattle.profile.specs.Means.{Line}
-use Rattle.profile.specs.Allotment.{Ranked, ranks_before, lots_named}
-use Rattle.profile.specs.Events.{Event, Enrolment, Advised, Ordered, Acknowledged, Counted, Picked, Recounted, is_pair, count_naming, since, expiry}
-use Rattle.goods.specs.Lots.{is_lot_of, rank_of, ranks_of}
-use Rattle.goods.proofs.Orders.{Has, in_order_same}
-use Rattle.goods.proofs.Ranks.{ranks_order}
-use Rattle.goods.specs.OfPairs.{is_row, of_pair, since as first_count, positive, IsDistinct}
-use Rattle.goods.specs.Pages.{PageFacts}
+use Rattle.definitions.specs.declared.rules.Rules.{Rules}
+use Rattle.definitions.specs.Lists.{in_order, first_found}
+use Rattle.definitions.specs.Means.{Line}
+use Rattle.definitions.specs.Allotment.{Ranked, ranks_before, lots_named}
+use Rattle.definitions.specs.Events.{Event, Enrolment, Advised, Ordered, Acknowledged, Counted, Picked, Recounted, is_pair, count_naming, since, expiry}
+use Rattle.page_rows.specs.Lots.{is_lot_of, rank_of, ranks_of}
+use Rattle.page_rows.proofs.Orders.{Has, in_order_same}
+use Rattle.page_rows.proofs.Ranks.{ranks_order}
+use Rattle.page_rows.specs.OfPairs.{is_row, of_pair, since as first_count, positive, IsDistinct}
+use Rattle.page_rows.specs.Pages.{PageFacts}
 use Rattle.stock.specs.Shows.{Shows}
-use Rattle.goods.proofs.OfPairLemmas.{row_is}
-use Rattle.goods.proofs.LotLemmas.{has_map, map_has, has_filter, filter_has, of_pair_has, date_has, ranks_once, of_pair_find}
+use Rattle.page_rows.proofs.OfPairLemmas.{row_is}
+use Rattle.page_rows.proofs.LotLemmas.{has_map, map_has, has_filter, filter_has, of_pair_has, date_has, ranks_once, of_pair_find}
 
 has_append : {X : Type 0} (z : X) (xs ys : List X) → Has z (xs ++ ys) → Has z xs ⊎ Has z ys
 has_append z [] ys h = inr h

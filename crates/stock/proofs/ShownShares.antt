@@ -1,18 +1,18 @@
 -- What the page gives a line is what the events give it.
 use Rattle.std.proofs.Common.{◌≡◌, ℕ, List, [], ◌∷◌, ◌++◌, map, refl, ap, ◌∙◌, arith}
 use Rattle.std.specs.Prelude.{zip, filter, flat_map}
-use Rattle.profile.specs.Means.{Line, OrderLine, Order}
-use Rattle.profile.specs.Lists.{in_order}
-use Rattle.profile.specs.Events.{Event}
-use Rattle.profile.specs.Movements.{Column, OnHand, Reservation, balance, free}
-use Rattle.profile.specs.declared.rules.Rules.{Rules}
-use Rattle.profile.specs.Allotment.{Ranked, ranks_before, allot, lots_of, lots_for, may_have, line_shares, order_shares}
-use Rattle.goods.specs.OfPairs.{of_pair, amount, IsDistinct}
-use Rattle.goods.specs.Pages.{PageFacts}
+use Rattle.definitions.specs.Means.{Line, OrderLine, Order}
+use Rattle.definitions.specs.Lists.{in_order}
+use Rattle.definitions.specs.Events.{Event}
+use Rattle.definitions.specs.Movements.{Column, OnHand, Reservation, balance, free}
+use Rattle.definitions.specs.declared.rules.Rules.{Rules}
+use Rattle.definitions.specs.Allotment.{Ranked, ranks_before, allot, lots_of, lots_for, may_have, line_shares, order_shares}
+use Rattle.page_rows.specs.OfPairs.{of_pair, amount, IsDistinct}
+use Rattle.page_rows.specs.Pages.{PageFacts}
 use Rattle.stock.specs.Shows.{Shows}
-use Rattle.goods.specs.Lots.{ranks_of, free_in, shares_in, all_shares_in}
+use Rattle.page_rows.specs.Lots.{ranks_of, free_in, shares_in, all_shares_in}
 use Rattle.stock.proofs.ShownLots.{lots_shown}
-use Rattle.goods.proofs.Shares.{map_same}
+use Rattle.page_rows.proofs.Shares.{map_same}
 
 balance_shown : (p : PageFacts) (es : List Event) → Shows p es → (c : Column) (i l : List ℕ) → of_pair (amount c) i l p.rows ≡ balance es c i l
 balance_shown p es shows c i l = omega (arith, shows.amounts c i l)

@@ -6,21 +6,21 @@ use Rattle.std.proofs.lemmas.List.Sums.{sum_by-append, sum_by-cons}
 use Rattle.std.specs.Prelude.{nat_le, sum_by}
 use Rattle.std.specs.List.{list_all, list_any}
 use Rattle.std.specs.Cmp.Derive.{both_true}
-use Rattle.profile.specs.Events.{is_pair, quantity_of}
-use Rattle.profile.specs.Limits.{most_entries}
-use Rattle.profile.specs.Means.{Line}
-use Rattle.profile.specs.Movements.{Column, Expected, OnHand, Reservation, Shipped}
-use Rattle.profile.specs.Page.{PageAdvice, PageOrder}
-use Rattle.profile.specs.Rows.{LotRow}
-use Rattle.goods.specs.Pages.{AreSorted, IsSound, PageFacts, awaited, held, is_in_lines}
-use Rattle.goods.specs.Soundness.{all_expected, all_reserved, is_expected, is_kept, is_reserved, is_within, most_of}
-use Rattle.goods.specs.OfPairs.{IsDistinct, amount, is_row, one, of_pair}
-use Rattle.profile.proofs.TextLaws.{same_text}
-use Rattle.goods.proofs.KeyLemmas.{advices_once, documents_once, orders_once, sorted_distinct}
-use Rattle.goods.proofs.LotLemmas.{of_pair_has}
-use Rattle.goods.proofs.Orders.{Has}
-use Rattle.goods.proofs.Pairs.{quantity_no, quantity_yes}
-use Rattle.goods.proofs.OfPairLemmas.{pair_is, part_no, part_yes, of_pair_absent, of_pair_cons}
+use Rattle.definitions.specs.Events.{is_pair, quantity_of}
+use Rattle.definitions.specs.Limits.{most_entries}
+use Rattle.definitions.specs.Means.{Line}
+use Rattle.definitions.specs.Movements.{Column, Expected, OnHand, Reservation, Shipped}
+use Rattle.definitions.specs.Page.{PageAdvice, PageOrder}
+use Rattle.definitions.specs.Rows.{LotRow}
+use Rattle.page_rows.specs.Pages.{AreSorted, IsSound, PageFacts, awaited, held, is_in_lines}
+use Rattle.page_rows.specs.Soundness.{all_expected, all_reserved, is_expected, is_kept, is_reserved, is_within, most_of}
+use Rattle.page_rows.specs.OfPairs.{IsDistinct, amount, is_row, one, of_pair}
+use Rattle.definitions.proofs.TextLaws.{same_text}
+use Rattle.page_rows.proofs.KeyLemmas.{advices_once, documents_once, orders_once, sorted_distinct}
+use Rattle.page_rows.proofs.LotLemmas.{of_pair_has}
+use Rattle.page_rows.proofs.Orders.{Has}
+use Rattle.page_rows.proofs.Pairs.{quantity_no, quantity_yes}
+use Rattle.page_rows.proofs.OfPairLemmas.{pair_is, part_no, part_yes, of_pair_absent, of_pair_cons}
 
 -- what stands before a place, and what stands there
 pub taken_sum : {X : Type 0} (f : X → ℕ) (xs : List X) (i : ℕ) (d : X) → i < length xs → sum_by f (take i xs) + f (get_or xs i d) ≤ sum_by f xs

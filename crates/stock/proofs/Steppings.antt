@@ -3,27 +3,27 @@ use Rattle.std.proofs.Common.{◌≡◌, ℕ, ◌+◌, Bool, true, cond, List, [
 use Rattle.std.proofs.lemmas.List.Sums.{fold-append}
 use Rattle.std.proofs.lemmas.Slice.Eq.{bytes_eq-Decides}
 use Rattle.std.specs.Prelude.{fold, bytes_eq, codes, option_map, option_to_list}
-use Rattle.profile.specs.Means.{Line, Advice, advised, Order}
-use Rattle.profile.specs.Movements.{Reservation}
-use Rattle.profile.specs.Page.{PageAdvice, PageOrder, reserved_lines}
-use Rattle.profile.specs.Rows.{LotRow}
+use Rattle.definitions.specs.Means.{Line, Advice, advised, Order}
+use Rattle.definitions.specs.Movements.{Reservation}
+use Rattle.definitions.specs.Page.{PageAdvice, PageOrder, reserved_lines}
+use Rattle.definitions.specs.Rows.{LotRow}
 use Rattle.stock.specs.declared.steps.Change.{Change}
 use Rattle.stock.specs.declared.steps.Change.TheVariants as change
-use Rattle.goods.specs.declared.documents.Function.TheVariants.{Receipt, Shipment, Adjustment}
-use Rattle.goods.specs.Functions.{function_text}
-use Rattle.goods.specs.Keyed.{put_advice, put_order, IsSorted}
-use Rattle.goods.specs.Moved.{IsAdded, IsAdvised, IsCounted, IsShipped, SetsOnHand}
-use Rattle.goods.specs.Pages.{PageFacts, AreSorted, advice_at, order_at}
+use Rattle.page_rows.specs.declared.documents.Function.TheVariants.{Receipt, Shipment, Adjustment}
+use Rattle.page_rows.specs.Functions.{function_text}
+use Rattle.page_rows.specs.Keyed.{put_advice, put_order, IsSorted}
+use Rattle.page_rows.specs.Moved.{IsAdded, IsAdvised, IsCounted, IsShipped, SetsOnHand}
+use Rattle.page_rows.specs.Pages.{PageFacts, AreSorted, advice_at, order_at}
 use Rattle.stock.specs.Puts.{put, put_change}
-use Rattle.goods.specs.Steps.{opened, opened_order, closed_advice, closed_order, with_sent, IsAnnounced, IsReserved, IsReceived, IsPicked, IsRecounted}
+use Rattle.page_rows.specs.Steps.{opened, opened_order, closed_advice, closed_order, with_sent, IsAnnounced, IsReserved, IsReceived, IsPicked, IsRecounted}
 use Rattle.stock.specs.Stops.{row_changes, advice_changes, order_changes}
-use Rattle.goods.specs.OfPairs.{changed_rows}
+use Rattle.page_rows.specs.OfPairs.{changed_rows}
 use Rattle.stock.specs.Touched.{IsTouched}
-use Rattle.goods.proofs.Keys.{put_rises}
-use Rattle.goods.proofs.KeyLemmas.{advice_put, order_put, put_sorted, texts_strict, said_sorted, sent_sorted}
+use Rattle.page_rows.proofs.Keys.{put_rises}
+use Rattle.page_rows.proofs.KeyLemmas.{advice_put, order_put, put_sorted, texts_strict, said_sorted, sent_sorted}
 use Rattle.stock.proofs.Leads.{put_rows, rows_exact, added_led, advised_led, counted_led, shipped_led, set_led}
-use Rattle.profile.specs.Bytes.{comes_before}
-use Rattle.goods.specs.Keyed.{shipment_of, number_of}
+use Rattle.definitions.specs.Bytes.{comes_before}
+use Rattle.page_rows.specs.Keyed.{shipment_of, number_of}
 
 pub stock_puts : (cs : List LotRow) (p : PageFacts) → fold put_change p (map change.Stock cs) ≡ record p { rows = put_rows cs p.rows }
 stock_puts [] p = refl

@@ -3,10 +3,10 @@ use Rattle.std.proofs.Common.{◌≡◌, ℕ, Bool, true, false, ◌&&◌, not, 
 use Rattle.std.proofs.lemmas.Slice.Eq.{bytes_eq-Decides}
 use Rattle.std.specs.Prelude.{bytes_eq, is_some, option_map}
 use Rattle.std.specs.List.{list_any}
-use Rattle.profile.specs.Lists.{or_else, first_found}
-use Rattle.profile.specs.Means.{Advice, advised}
-use Rattle.profile.specs.Events.{Event, Enrolment, Advised, Ordered, Acknowledged, Counted, Picked, Recounted, advice_if, advice_under, Reserved, order_if, order_under, counts, picks, is_advice_open, is_order_open}
-use Rattle.profile.specs.Page.{PageAdvice, PageOrder, page_advice, page_line, page_order, reserved_lines}
+use Rattle.definitions.specs.Lists.{or_else, first_found}
+use Rattle.definitions.specs.Means.{Advice, advised}
+use Rattle.definitions.specs.Events.{Event, Enrolment, Advised, Ordered, Acknowledged, Counted, Picked, Recounted, advice_if, advice_under, Reserved, order_if, order_under, counts, picks, is_advice_open, is_order_open}
+use Rattle.definitions.specs.Page.{PageAdvice, PageOrder, page_advice, page_line, page_order, reserved_lines}
 
 -- an element in which something is found first
 pub found_from : {X Y : Type 0} (f : X → Option Y) (xs : List X) (y : Y) → first_found f xs ≡ Some y → (x : X) × (f x ≡ Some y)

@@ -1,5 +1,5 @@
 -- What a page and a draft hold, as clauses see it.
-use Rattle.goods.specs.Pages.{PageFacts}
+use Rattle.page_rows.specs.Pages.{PageFacts}
 use Rattle.stock.specs.declared.facts.Facts.{Facts}
 
 abbrev pub facts_of : Facts → PageFacts

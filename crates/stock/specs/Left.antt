@@ -1,8 +1,8 @@
 -- What is left of an amount of each row, as lines are taken from it.
 use Rattle.std.specs.Prelude.{ℕ, ◌+◌, ◌≤◌, ◌≡◌, Bool, true, false, List, length, slice_index_or}
-use Rattle.profile.specs.Rows.{LotRow}
-use Rattle.goods.specs.Moved.{IsPlace}
-use Rattle.goods.specs.OfPairs.{one, of_pair}
+use Rattle.definitions.specs.Rows.{LotRow}
+use Rattle.page_rows.specs.Moved.{IsPlace}
+use Rattle.page_rows.specs.OfPairs.{one, of_pair}
 
 -- beside each row stands what is left of its amount after what was taken of its pair, and of a pair
 -- without a row nothing was taken

@@ -2,10 +2,10 @@
 use Rattle.std.specs.Prelude.{ℕ, ◌+◌, List, [], fold}
 use Rattle.stock.specs.declared.steps.Change.{Change}
 use Rattle.stock.specs.declared.steps.Change.TheVariants.{Stock, Advice, Order, Sent, Document}
-use Rattle.goods.specs.Functions.{function_text}
-use Rattle.goods.specs.Keyed.{put_row, put_advice, put_order}
-use Rattle.goods.specs.Pages.{PageFacts}
-use Rattle.goods.specs.Steps.{with_sent, with_said}
+use Rattle.page_rows.specs.Functions.{function_text}
+use Rattle.page_rows.specs.Keyed.{put_row, put_advice, put_order}
+use Rattle.page_rows.specs.Pages.{PageFacts}
+use Rattle.page_rows.specs.Steps.{with_sent, with_said}
 
 -- a page of which nothing was put in yet, of a depositor with so many numbered entries
 abbrev pub nothing_yet : ℕ → PageFacts

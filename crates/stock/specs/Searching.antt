@@ -1,8 +1,8 @@
 -- Lists that rise by a key, searched by it.
 use Rattle.std.specs.Prelude.{◌≡◌, ℕ, Bool, List, None, Result, Ok, Err, find, set}
 use Rattle.std.specs.List.{insert}
-use Rattle.goods.specs.Keyed.{IsRank}
-use Rattle.goods.specs.Pages.{IsAt}
+use Rattle.page_rows.specs.Keyed.{IsRank}
+use Rattle.page_rows.specs.Pages.{IsAt}
 
 -- what is under the key stands here; or nothing is, and so many have a key before it
 abbrev pub FoundAt : {X K : Type 0} → (K → K → Bool) → (X → K) → (X → Bool) → K → List X

@@ -1,13 +1,13 @@
 -- The events that a page stands for.
 use Rattle.std.specs.Prelude.{ℕ, ◌≡◌, ◌+◌, Bool, true, false, ◌&&◌, List, if◌then◌else◌, nat_lt, nat_le, ◌==◌, Some, None, codes, Option, option_map, flat_map}
 use Rattle.std.specs.List.{list_any, list_all}
-use Rattle.profile.specs.Lists.{first_found}
-use Rattle.profile.specs.Events.{Event, Acknowledged, Counted, Picked, Recounted, quantity_of, advice_under, Reserved, order_under, counts, picks, first_count, expiry}
-use Rattle.profile.specs.Movements.{Column, came_to, went_from}
-use Rattle.profile.specs.Rows.{named, said_of}
-use Rattle.profile.specs.Page.{PageDocument, reserved_lines, page_advice, page_order}
-use Rattle.goods.specs.OfPairs.{of_pair, date_of_pair, one, since, amount, named_by, positive}
-use Rattle.goods.specs.Pages.{PageFacts, advice_at, order_at, document_at}
+use Rattle.definitions.specs.Lists.{first_found}
+use Rattle.definitions.specs.Events.{Event, Acknowledged, Counted, Picked, Recounted, quantity_of, advice_under, Reserved, order_under, counts, picks, first_count, expiry}
+use Rattle.definitions.specs.Movements.{Column, came_to, went_from}
+use Rattle.definitions.specs.Rows.{named, said_of}
+use Rattle.definitions.specs.Page.{PageDocument, reserved_lines, page_advice, page_order}
+use Rattle.page_rows.specs.OfPairs.{of_pair, date_of_pair, one, since, amount, named_by, positive}
+use Rattle.page_rows.specs.Pages.{PageFacts, advice_at, order_at, document_at}
 
 -- the functional identifier of the document that a clerk's event sent under a number
 abbrev pub sent_if : ℕ → Event → Option (List ℕ)

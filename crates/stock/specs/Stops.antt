@@ -1,19 +1,19 @@
 -- Why there is no page with one event more, and which rows change where there is one.
 use Rattle.std.specs.Prelude.{ℕ, ◌≡◌, List, [], ◌∷◌, ◌++◌, map, if◌then◌else◌, Option, Some, Result, Err, option_map, option_to_list}
 use Rattle.std.specs.List.{list_any}
-use Rattle.profile.specs.Faults.{SetFault}
-use Rattle.profile.specs.Means.{Acknowledgment}
-use Rattle.profile.specs.Events.{Event}
-use Rattle.profile.specs.declared.refusals.Refusal.{Refusal}
+use Rattle.definitions.specs.Faults.{SetFault}
+use Rattle.definitions.specs.Means.{Acknowledgment}
+use Rattle.definitions.specs.Events.{Event}
+use Rattle.definitions.specs.declared.refusals.Refusal.{Refusal}
 use Rattle.stock.specs.declared.steps.SetStop.{SetStop}
 use Rattle.stock.specs.declared.steps.SetStop.TheVariants as sets
 use Rattle.stock.specs.declared.steps.ActStop.{ActStop}
 use Rattle.stock.specs.declared.steps.ActStop.TheVariants as acts
 use Rattle.stock.specs.declared.steps.Change.{Change}
 use Rattle.stock.specs.declared.steps.Change.TheVariants.{Stock, Advice, Order, Document}
-use Rattle.goods.specs.OfPairs.{changed_rows}
-use Rattle.goods.specs.Pages.{PageFacts, advice_at, order_at}
-use Rattle.goods.specs.Steps.{decides}
+use Rattle.page_rows.specs.OfPairs.{changed_rows}
+use Rattle.page_rows.specs.Pages.{PageFacts, advice_at, order_at}
+use Rattle.page_rows.specs.Steps.{decides}
 
 -- a set's trade fault, or want of memory
 abbrev pub StopsFor : Option SetFault → SetStop → Type 0

@@ -1,11 +1,11 @@
 -- The rows that a step touches.
 use Rattle.std.specs.Prelude.{ℕ, ◌≡◌, ◌&&◌, nat_lt, List, if◌then◌else◌}
 use Rattle.std.specs.List.{list_any}
-use Rattle.profile.specs.Events.{is_pair}
-use Rattle.profile.specs.Means.{Line}
-use Rattle.profile.specs.Rows.{LotRow}
-use Rattle.goods.specs.Keyed.{IsSorted}
-use Rattle.goods.specs.OfPairs.{of_pair, one}
+use Rattle.definitions.specs.Events.{is_pair}
+use Rattle.definitions.specs.Means.{Line}
+use Rattle.definitions.specs.Rows.{LotRow}
+use Rattle.page_rows.specs.Keyed.{IsSorted}
+use Rattle.page_rows.specs.OfPairs.{of_pair, one}
 
 -- the rows of the pairs that lines name, as they are
 pub record IsTouched (lines : List Line) (rows touched : List LotRow) : Type 0 where

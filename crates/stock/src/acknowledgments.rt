@@ -1,12 +1,12 @@
 ghost use Rattle.std.specs.Prelude.{◌≡◌, ◌<◌, ◌+◌, ◌++◌, [], ◌∷◌, List, IfOk, true};
 ghost use Rattle.std.specs.List.{list_any};
-ghost use Rattle.profile.specs.Limits.{most_sets};
-ghost use Rattle.profile.specs.Events.{Event, Acknowledged};
-ghost use Rattle.goods.specs.Pages.{PageFacts, IsSound};
+ghost use Rattle.definitions.specs.Limits.{most_sets};
+ghost use Rattle.definitions.specs.Events.{Event, Acknowledged};
+ghost use Rattle.page_rows.specs.Pages.{PageFacts, IsSound};
 ghost use Rattle.stock.specs.Parts.{Named, IsPart};
 ghost use Rattle.stock.specs.Puts.{put};
 ghost use Rattle.stock.specs.Shows.{Shows};
-ghost use Rattle.goods.specs.Steps.{decides};
+ghost use Rattle.page_rows.specs.Steps.{decides};
 ghost use Rattle.stock.specs.Stops.{document_changes};
 
 use crate::page::Page;

@@ -1,5 +1,5 @@
 ghost use Rattle.std.specs.Prelude.{◌≡◌, IfOk};
-ghost use Rattle.profile.specs.Allotment.{allot};
+ghost use Rattle.definitions.specs.Allotment.{allot};
 
 use std::alloc::{AllocError, Global};
 

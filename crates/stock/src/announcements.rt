@@ -1,13 +1,13 @@
 ghost use Rattle.std.specs.Prelude.{◌≡◌, ◌<◌, ◌++◌, ◌≤◌, [], ◌∷◌, List, None, IfOk, IfErr, length};
-ghost use Rattle.profile.specs.declared.rules.Rules.TheVariants.{Two};
-ghost use Rattle.profile.specs.Limits.{most_lines, most_sets};
-ghost use Rattle.profile.specs.Events.{Event, Advised, advice_fault};
-ghost use Rattle.profile.specs.Means.{advised as meant_lines};
-ghost use Rattle.goods.specs.Pages.{PageFacts, IsSound, advice_at};
+ghost use Rattle.definitions.specs.Rules.{Today};
+ghost use Rattle.definitions.specs.Limits.{most_lines, most_sets};
+ghost use Rattle.definitions.specs.Events.{Event, Advised, advice_fault};
+ghost use Rattle.definitions.specs.Means.{advised as meant_lines};
+ghost use Rattle.page_rows.specs.Pages.{PageFacts, IsSound, advice_at};
 ghost use Rattle.stock.specs.Parts.{Named, IsPart, NamesAdvice};
 ghost use Rattle.stock.specs.Puts.{put};
 ghost use Rattle.stock.specs.Shows.{Shows};
-ghost use Rattle.goods.specs.Steps.{IsAnnounced, opened};
+ghost use Rattle.page_rows.specs.Steps.{IsAnnounced, opened};
 ghost use Rattle.stock.specs.Stops.{StopsFor, advice_changes};
 
 use crate::changes::row_changes;
@@ -17,14 +17,14 @@ use crate::page::Page;
 use crate::places::touched;
 use crate::postings::{add_lines, date_lines};
 use crate::steps::{Change, SetStop, Step};
-use goods::{Column, KnownAdvice};
+use page_rows::{Column, KnownAdvice};
 use sets_in::{Advice, Goods};
 use std::alloc::{AllocError, Global};
 
 // An advice that is opened.
 fn opened(alloc: Global, advice: &Advice, lines: Vec<Goods>) -> Result<KnownAdvice, AllocError>
     requires lines { lines.items ≡ meant_lines advice.now }
-    requires few { length lines.items ≤ most_lines Two }
+    requires few { length lines.items ≤ most_lines Today }
 
     ensures { IfOk result (λ known. known ≡ opened advice.now) }
 {

@@ -1,11 +1,11 @@
 ghost use Rattle.std.specs.Prelude.{◌≡◌, IfOk, map};
-ghost use Rattle.goods.specs.Keyed.{IsSorted};
-ghost use Rattle.goods.specs.OfPairs.{changed_rows};
+ghost use Rattle.page_rows.specs.Keyed.{IsSorted};
+ghost use Rattle.page_rows.specs.OfPairs.{changed_rows};
 ghost use Rattle.stock.specs.declared.steps.Change.TheVariants.{Stock};
 
 use crate::places::has_row;
 use crate::steps::Change;
-use goods::Row;
+use page_rows::Row;
 use std::alloc::{AllocError, Global};
 
 /// The rows of pairs that aren't those of the page.

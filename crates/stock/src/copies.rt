@@ -1,8 +1,8 @@
 //! Copies of lines, for what a page keeps of an advice and an order.
 ghost use Rattle.std.specs.Prelude.{◌≡◌, ◌++◌, IfOk, filter, map, nat_lt};
-ghost use Rattle.profile.specs.Page.{page_line, reserved_lines};
+ghost use Rattle.definitions.specs.Page.{page_line, reserved_lines};
 
-use goods::{KnownLine, in_order};
+use page_rows::{KnownLine, in_order};
 use sets_in::{AdviceLine, Goods, OrderLine};
 use std::alloc::{AllocError, Global};
 

@@ -1,6 +1,6 @@
 ghost use Rattle.std.specs.Prelude.{◌≡◌, IfOk, MatchOption};
-ghost use Rattle.goods.specs.Keyed.{put_row, put_advice, put_order, put_document};
-ghost use Rattle.goods.specs.Pages.{PageFacts, AreSorted, IsSound};
+ghost use Rattle.page_rows.specs.Keyed.{put_row, put_advice, put_order, put_document};
+ghost use Rattle.page_rows.specs.Pages.{PageFacts, AreSorted, IsSound};
 ghost use Rattle.stock.specs.Facts.{facts_of};
 ghost use Rattle.stock.specs.Puts.{nothing_yet, put_change};
 ghost use Rattle.stock.specs.declared.steps.Change.TheVariants as changed;
@@ -11,7 +11,7 @@ use crate::places::put_row;
 use crate::searches::{put_advice, put_document, put_order, put_said, send};
 use crate::sound::is_kept;
 use crate::steps::Change;
-use goods::{Function, KnownAdvice, KnownDocument, KnownOrder, Row};
+use page_rows::{Function, KnownAdvice, KnownDocument, KnownOrder, Row};
 use std::alloc::{AllocError, Global};
 use std::marker::Model;
 

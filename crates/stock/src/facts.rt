@@ -1,4 +1,4 @@
-use goods::{KnownAdvice, KnownDocument, KnownOrder, Row};
+use page_rows::{KnownAdvice, KnownDocument, KnownOrder, Row};
 
 /// What a page and a draft hold. Nothing is known of it here: each says what is so of its own.
 #[derive(Drop)]

@@ -1,12 +1,12 @@
 ghost use Rattle.std.specs.Prelude.{◌≡◌, ◌<◌, ◌-◌, ◌^◌, IfOk, IfSome, [], sum_by, Option, find, option_map};
-ghost use Rattle.profile.specs.Means as meant;
-ghost use Rattle.profile.specs.Events as events;
-ghost use Rattle.goods.specs.Keyed.{IsSorted};
-ghost use Rattle.goods.specs.OfPairs.{date_of_pair};
+ghost use Rattle.definitions.specs.Means as meant;
+ghost use Rattle.definitions.specs.Events as events;
+ghost use Rattle.page_rows.specs.Keyed.{IsSorted};
+ghost use Rattle.page_rows.specs.OfPairs.{date_of_pair};
 ghost use Rattle.sets_in.specs.Limits.{HasFewLines, HasFewOrderLines};
 
 use crate::places::{is_among, is_redated, placed};
-use goods::{Row, new_line};
+use page_rows::{Row, new_line};
 use segments::{ElementFault, SetFault};
 use sets_in::{Advice, AdviceLine, Order, OrderLine};
 use std::alloc::{AllocError, Global};

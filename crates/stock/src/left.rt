@@ -1,13 +1,13 @@
 //! What is left of rows' amounts as lines are taken from them: each line is looked up once.
 ghost use Rattle.std.specs.Prelude.{◌≡◌, ◌∷◌, [], IfOk, length, map};
-ghost use Rattle.profile.specs.Events as events;
-ghost use Rattle.goods.specs.Columns.{column_of};
-ghost use Rattle.goods.specs.Keyed.{IsSorted};
+ghost use Rattle.definitions.specs.Events as events;
+ghost use Rattle.page_rows.specs.Columns.{column_of};
+ghost use Rattle.page_rows.specs.Keyed.{IsSorted};
 ghost use Rattle.stock.specs.Left.{IsLess};
-ghost use Rattle.goods.specs.Pages as pages;
-ghost use Rattle.goods.specs.OfPairs.{amount};
+ghost use Rattle.page_rows.specs.Pages as pages;
+ghost use Rattle.page_rows.specs.OfPairs.{amount};
 
-use goods::{Column, KnownAdvice, KnownOrder, Row, place_of};
+use page_rows::{Column, KnownAdvice, KnownOrder, Row, place_of};
 use sets_in::Goods;
 use std::alloc::{AllocError, Global};
 

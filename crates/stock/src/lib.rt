@@ -28,11 +28,11 @@ pub use allotment::allot;
 pub use announcements::announce;
 pub use copies::joined;
 pub use drafts::Draft;
-pub use goods::{
+pub use page::Page;
+pub use page_rows::{
     Function, KnownAdvice, KnownDocument, KnownLine, KnownOrder, Row, in_order, place_of,
     quantity_of, total,
 };
-pub use page::Page;
 pub use picks::pick;
 pub use receipts::receive;
 pub use recounts::recount;

@@ -1,19 +1,19 @@
 ghost use Rattle.std.specs.Prelude.{length, ◌≡◌, ◌<◌, ◌+◌, List, [], ◌∷◌, IfOk, MatchOption, is_some, None, Some, true};
-ghost use Rattle.profile.specs.Limits.{most_entries};
-ghost use Rattle.profile.specs.Events.{Event, Enrolment};
-ghost use Rattle.profile.specs.Movements.{OnHand, balance};
-ghost use Rattle.goods.specs.Pages.{PageFacts, IsSound, advice_at, order_at, document_at, next_entry};
+ghost use Rattle.definitions.specs.Limits.{most_entries};
+ghost use Rattle.definitions.specs.Events.{Event, Enrolment};
+ghost use Rattle.definitions.specs.Movements.{OnHand, balance};
+ghost use Rattle.page_rows.specs.Pages.{PageFacts, IsSound, advice_at, order_at, document_at, next_entry};
 ghost use Rattle.stock.specs.Facts.{facts_of};
 ghost use Rattle.stock.specs.Parts.{Named, IsPart};
 ghost use Rattle.stock.specs.Puts.{put};
 ghost use Rattle.stock.specs.Shows.{Shows};
-ghost use Rattle.goods.specs.OfPairs.{of_pair, amount};
+ghost use Rattle.page_rows.specs.OfPairs.{of_pair, amount};
 
 use crate::drafts::Draft;
 use crate::facts::Facts;
 use crate::searches::{find_advice, find_document, find_order};
 use crate::steps::Step;
-use goods::{Column, KnownAdvice, KnownDocument, KnownOrder, Row, amount_of};
+use page_rows::{Column, KnownAdvice, KnownDocument, KnownOrder, Row, amount_of};
 use std::alloc::{AllocError, Global};
 use std::marker::Model;
 

@@ -1,15 +1,15 @@
 ghost use Rattle.std.specs.Prelude.{◌≡◌, ◌<◌, ◌+◌, ◌++◌, [], ◌∷◌, List, Ok, Some, IfOk, IfErr, true, false};
 ghost use Rattle.std.specs.List.{list_any};
-ghost use Rattle.profile.specs.Limits.{most_sets};
-ghost use Rattle.profile.specs.Clerk.{picked};
-ghost use Rattle.profile.specs.Events.{Event};
-ghost use Rattle.goods.specs.Pages.{PageFacts, IsSound, order_at};
+ghost use Rattle.definitions.specs.Limits.{most_sets};
+ghost use Rattle.definitions.specs.Clerk.{picked};
+ghost use Rattle.definitions.specs.Events.{Event};
+ghost use Rattle.page_rows.specs.Pages.{PageFacts, IsSound, order_at};
 ghost use Rattle.stock.specs.Parts.{Named, IsPart, NamesPick, are_items};
 ghost use Rattle.stock.specs.Puts.{put};
 ghost use Rattle.stock.specs.Shows.{Shows};
-ghost use Rattle.goods.specs.Steps.{IsPicked, exceeds};
+ghost use Rattle.page_rows.specs.Steps.{IsPicked, exceeds};
 ghost use Rattle.stock.specs.Stops.{StopsAct, order_changes};
-ghost use Rattle.goods.specs.declared.documents.Function.TheVariants.{Shipment};
+ghost use Rattle.page_rows.specs.declared.documents.Function.TheVariants.{Shipment};
 ghost use Rattle.stock.specs.declared.steps.Change.TheVariants.{Sent};
 
 use crate::changes::row_changes;
@@ -18,8 +18,8 @@ use crate::page::Page;
 use crate::places::touched;
 use crate::postings::ship;
 use crate::steps::{ActStop, Change, Step};
-use goods::{Function, KnownOrder, exceeds};
-use profile::Refusal;
+use definitions::Refusal;
+use page_rows::{Function, KnownOrder, exceeds};
 use sheets::Sheet;
 use std::alloc::{AllocError, Global};
 

@@ -1,14 +1,14 @@
 //! Rows in order: one is put, made, copied and looked for by its pair.
 ghost use Rattle.std.specs.Prelude.{◌≡◌, ◌<◌, List, IfOk, OnOk, true};
 ghost use Rattle.std.specs.List.{list_any};
-ghost use Rattle.profile.specs.Events.{is_pair, is_redated};
-ghost use Rattle.profile.specs.Means.{Line};
-ghost use Rattle.goods.specs.Keyed.{put_row, IsSorted};
-ghost use Rattle.goods.specs.OfPairs.{AreRowsOf, date_of_pair, one, same_row, blank};
+ghost use Rattle.definitions.specs.Events.{is_pair, is_redated};
+ghost use Rattle.definitions.specs.Means.{Line};
+ghost use Rattle.page_rows.specs.Keyed.{put_row, IsSorted};
+ghost use Rattle.page_rows.specs.OfPairs.{AreRowsOf, date_of_pair, one, same_row, blank};
 ghost use Rattle.stock.specs.Touched.{IsTouched, IsTouchedBy};
-ghost use Rattle.goods.specs.Moved.{IsPlaced};
+ghost use Rattle.page_rows.specs.Moved.{IsPlaced};
 
-use goods::{Row, place_of, rank_of};
+use page_rows::{Row, place_of, rank_of};
 use sets_in::{AdviceLine, Goods};
 use std::alloc::{AllocError, Global};
 

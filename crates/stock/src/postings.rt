@@ -1,14 +1,14 @@
 //! What lines add to the columns of rows, take from them and set in them.
 ghost use Rattle.std.specs.Prelude.{◌≡◌, [], ◌∷◌, ◌≤◌, ◌<◌, ◌+◌, ◌^◌, ℕ, List, map, OnOk};
-ghost use Rattle.profile.specs.Events.{quantity_of};
-ghost use Rattle.profile.specs.Movements.{Expected, OnHand, Reservation, Shipped};
-ghost use Rattle.goods.specs.Keyed.{IsSorted};
-ghost use Rattle.goods.specs.OfPairs.{of_pair, one, amount, named_by};
-ghost use Rattle.goods.specs.Moved.{IsAdded, IsTaken, IsMarked, IsDated, IsCounted, IsRaised, IsShipped, SetsOnHand};
-ghost use Rattle.goods.specs.Columns.{column_of};
+ghost use Rattle.definitions.specs.Events.{quantity_of};
+ghost use Rattle.definitions.specs.Movements.{Expected, OnHand, Reservation, Shipped};
+ghost use Rattle.page_rows.specs.Keyed.{IsSorted};
+ghost use Rattle.page_rows.specs.OfPairs.{of_pair, one, amount, named_by};
+ghost use Rattle.page_rows.specs.Moved.{IsAdded, IsTaken, IsMarked, IsDated, IsCounted, IsRaised, IsShipped, SetsOnHand};
+ghost use Rattle.page_rows.specs.Columns.{column_of};
 
 use crate::places::placed;
-use goods::{Column, Row, place_of};
+use page_rows::{Column, Row, place_of};
 use sets_in::{AdviceLine, Goods};
 use std::alloc::{AllocError, Global};
 

@@ -1,14 +1,14 @@
 ghost use Rattle.std.specs.Prelude.{◌≡◌, ◌<◌, ◌+◌, ◌++◌, [], ◌∷◌, List, Ok, Some, IfOk, IfErr, true};
-ghost use Rattle.profile.specs.Limits.{most_sets};
-ghost use Rattle.profile.specs.Clerk.{counted};
-ghost use Rattle.profile.specs.Events.{Event};
-ghost use Rattle.goods.specs.Pages.{PageFacts, IsSound, advice_at};
+ghost use Rattle.definitions.specs.Limits.{most_sets};
+ghost use Rattle.definitions.specs.Clerk.{counted};
+ghost use Rattle.definitions.specs.Events.{Event};
+ghost use Rattle.page_rows.specs.Pages.{PageFacts, IsSound, advice_at};
 ghost use Rattle.stock.specs.Parts.{Named, IsPart, NamesCount, are_items};
 ghost use Rattle.stock.specs.Puts.{put};
 ghost use Rattle.stock.specs.Shows.{Shows};
-ghost use Rattle.goods.specs.Steps.{IsReceived};
+ghost use Rattle.page_rows.specs.Steps.{IsReceived};
 ghost use Rattle.stock.specs.Stops.{StopsAct, advice_changes};
-ghost use Rattle.goods.specs.declared.documents.Function.TheVariants.{Receipt};
+ghost use Rattle.page_rows.specs.declared.documents.Function.TheVariants.{Receipt};
 ghost use Rattle.stock.specs.declared.steps.Change.TheVariants.{Sent};
 
 use crate::changes::row_changes;
@@ -17,8 +17,8 @@ use crate::page::Page;
 use crate::places::touched;
 use crate::postings::count;
 use crate::steps::{ActStop, Change, Step};
-use goods::{Function, KnownAdvice};
-use profile::Refusal;
+use definitions::Refusal;
+use page_rows::{Function, KnownAdvice};
 use sheets::Sheet;
 use std::alloc::{AllocError, Global};
 

@@ -1,15 +1,15 @@
 ghost use Rattle.std.specs.Prelude.{◌≡◌, ◌<◌, ◌+◌, ◌++◌, [], ◌∷◌, List, Ok, IfOk, IfErr, true, false};
 ghost use Rattle.std.specs.List.{list_any};
-ghost use Rattle.profile.specs.Limits.{most_sets};
-ghost use Rattle.profile.specs.Clerk.{recounted};
-ghost use Rattle.profile.specs.Events.{Event};
-ghost use Rattle.goods.specs.Pages.{PageFacts, IsSound};
+ghost use Rattle.definitions.specs.Limits.{most_sets};
+ghost use Rattle.definitions.specs.Clerk.{recounted};
+ghost use Rattle.definitions.specs.Events.{Event};
+ghost use Rattle.page_rows.specs.Pages.{PageFacts, IsSound};
 ghost use Rattle.stock.specs.Parts.{Named, IsPart, are_items};
 ghost use Rattle.stock.specs.Puts.{put};
 ghost use Rattle.stock.specs.Shows.{Shows};
-ghost use Rattle.goods.specs.Steps.{IsRecounted, is_unknown, is_below};
+ghost use Rattle.page_rows.specs.Steps.{IsRecounted, is_unknown, is_below};
 ghost use Rattle.stock.specs.Stops.{StopsAct, row_changes};
-ghost use Rattle.goods.specs.declared.documents.Function.TheVariants.{Adjustment};
+ghost use Rattle.page_rows.specs.declared.documents.Function.TheVariants.{Adjustment};
 ghost use Rattle.stock.specs.declared.steps.Change.TheVariants.{Sent};
 
 use crate::changes::row_changes;
@@ -17,8 +17,8 @@ use crate::page::Page;
 use crate::places::touched;
 use crate::postings::set_lines;
 use crate::steps::{ActStop, Change, Step};
-use goods::{Function, are_on_hand, has_below, has_unknown};
-use profile::Refusal;
+use definitions::Refusal;
+use page_rows::{Function, are_on_hand, has_below, has_unknown};
 use sheets::Sheet;
 use std::alloc::{AllocError, Global};
 

@@ -1,15 +1,15 @@
 ghost use Rattle.std.specs.Prelude.{true, ◌≡◌, ◌<◌, ◌++◌, [], ◌∷◌, List, None, IfOk, IfErr};
-ghost use Rattle.profile.specs.declared.rules.Rules.{Rules};
-ghost use Rattle.profile.specs.Limits.{most_sets};
-ghost use Rattle.profile.specs.Allotment.{order_shares};
-ghost use Rattle.profile.specs.Events.{Event, Ordered, order_fault, repeated, same_order_item};
-ghost use Rattle.profile.specs.Page.{reserved_lines};
-ghost use Rattle.goods.specs.Lots.{all_shares_in};
-ghost use Rattle.goods.specs.Pages.{PageFacts, IsSound, order_at};
+ghost use Rattle.definitions.specs.declared.rules.Rules.{Rules};
+ghost use Rattle.definitions.specs.Limits.{most_sets};
+ghost use Rattle.definitions.specs.Allotment.{order_shares};
+ghost use Rattle.definitions.specs.Events.{Event, Ordered, order_fault, repeated, same_order_item};
+ghost use Rattle.definitions.specs.Page.{reserved_lines};
+ghost use Rattle.page_rows.specs.Lots.{all_shares_in};
+ghost use Rattle.page_rows.specs.Pages.{PageFacts, IsSound, order_at};
 ghost use Rattle.stock.specs.Parts.{Named, IsPart, NamesOrder};
 ghost use Rattle.stock.specs.Puts.{put};
 ghost use Rattle.stock.specs.Shows.{Shows};
-ghost use Rattle.goods.specs.Steps.{IsReserved, opened_order};
+ghost use Rattle.page_rows.specs.Steps.{IsReserved, opened_order};
 ghost use Rattle.stock.specs.Stops.{StopsFor, order_changes};
 
 use crate::changes::row_changes;
@@ -19,8 +19,8 @@ use crate::page::Page;
 use crate::places::touched;
 use crate::postings::add_lines;
 use crate::steps::{Change, SetStop, Step};
-use goods::{Column, KnownOrder, all_shares};
-use profile::Rules;
+use definitions::Rules;
+use page_rows::{Column, KnownOrder, all_shares};
 use sets_in::{Address, Goods, Order};
 use std::alloc::{AllocError, Global};
 

@@ -1,13 +1,13 @@
 //! The lists of a page, searched and changed by their keys.
 ghost use Rattle.std.specs.Prelude.{◌≡◌, ◌≤◌, ◌<◌, true, MatchResult, OnOk, length, nat_lt};
-ghost use Rattle.profile.specs.Bytes.{comes_before};
-ghost use Rattle.goods.specs.Functions.{function_text};
-ghost use Rattle.goods.specs.Keyed.{rises_by, shipment_of, number_of, entry_of, put_advice, put_order, put_document};
-ghost use Rattle.goods.specs.Pages.{is_shipment, is_number, is_document};
-ghost use Rattle.goods.specs.Steps.{with_sent, with_said};
+ghost use Rattle.definitions.specs.Bytes.{comes_before};
+ghost use Rattle.page_rows.specs.Functions.{function_text};
+ghost use Rattle.page_rows.specs.Keyed.{rises_by, shipment_of, number_of, entry_of, put_advice, put_order, put_document};
+ghost use Rattle.page_rows.specs.Pages.{is_shipment, is_number, is_document};
+ghost use Rattle.page_rows.specs.Steps.{with_sent, with_said};
 ghost use Rattle.stock.specs.Searching.{FoundAt, put_at};
 
-use goods::{Function, KnownAdvice, KnownDocument, KnownOrder};
+use page_rows::{Function, KnownAdvice, KnownDocument, KnownOrder};
 use std::alloc::AllocError;
 
 /// Where the advice under a shipment number stands; the error is where it would.

@@ -1,21 +1,21 @@
 //! Whether lists are those of a page: what is true of every page is checked of them.
 ghost use Rattle.std.specs.Prelude.{◌≡◌, ◌+◌, ◌<◌, IfOk, MatchOption, map, nat_le, true, bytes_eq, if◌then◌else◌};
 ghost use Rattle.std.specs.List.{list_all, list_any};
-ghost use Rattle.profile.specs.Bytes.{is_one_of};
-ghost use Rattle.profile.specs.Events as events;
-ghost use Rattle.goods.specs.Keyed.{IsSorted};
-ghost use Rattle.goods.specs.Pages as pages;
-ghost use Rattle.goods.specs.Soundness as meant;
-ghost use Rattle.goods.specs.OfPairs.{AreRowsOf};
+ghost use Rattle.definitions.specs.Bytes.{is_one_of};
+ghost use Rattle.definitions.specs.Events as events;
+ghost use Rattle.page_rows.specs.Keyed.{IsSorted};
+ghost use Rattle.page_rows.specs.Pages as pages;
+ghost use Rattle.page_rows.specs.Soundness as meant;
+ghost use Rattle.page_rows.specs.OfPairs.{AreRowsOf};
 ghost use Rattle.stock.specs.Facts.{facts_of};
 
 use crate::facts::Facts;
 use crate::left::{amounts, take_awaited, take_held};
 use crate::places::{is_among, placed};
-use goods::{
+use definitions::MOST_ENTRIES;
+use page_rows::{
     Column, KnownAdvice, KnownLine, KnownOrder, Row, amount_of, are_within, is_of, new_line,
 };
-use profile::MOST_ENTRIES;
 use sets_in::Goods;
 use std::alloc::{AllocError, Global};
 

@@ -1,7 +1,7 @@
 ghost use Rattle.std.specs.Prelude.{◌≡◌};
 
-use goods::{Function, KnownAdvice, KnownOrder, Row};
-use profile::Refusal;
+use definitions::Refusal;
+use page_rows::{Function, KnownAdvice, KnownOrder, Row};
 use segments::SetFault;
 use std::alloc::AllocError;
 

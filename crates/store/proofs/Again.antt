@@ -5,16 +5,16 @@ use Rattle.std.specs.Prelude.{◌==◌}
 use Rattle.std.specs.Cmp.Derive.{both_true}
 use Rattle.std.proofs.lemmas.Bool.{cases_Bool}
 use Rattle.std.proofs.lemmas.List.Elements.{filter-append}
-use Rattle.profile.specs.declared.rules.Rules.{Rules}
-use Rattle.profile.specs.Moments.{Moment}
-use Rattle.profile.specs.Header.{Who, who_eq, is_unreadable}
-use Rattle.profile.specs.Register.{Command, Interchange, Enrol, Clerk, Entry, Known, known, own, mark, command_mark, canonical}
-use Rattle.profile.specs.History.{history}
-use Rattle.profile.specs.Reply.{Accepted, Stored, reply, stored, out}
-use Rattle.profile.specs.Decision.{standing, recalled}
-use Rattle.profile.specs.Accepted.{own_of, reply_to, is_accepted, entry_of, after, accepted_on}
-use Rattle.profile.proofs.DecisionLaws.{reply-by}
-use Rattle.profile.proofs.TextLaws.{same_text}
+use Rattle.definitions.specs.declared.rules.Rules.{Rules}
+use Rattle.definitions.specs.Moments.{Moment}
+use Rattle.definitions.specs.Header.{Who, who_eq, is_unreadable}
+use Rattle.definitions.specs.Register.{Command, Interchange, Enrol, Clerk, Entry, Known, known, own, mark, command_mark, canonical}
+use Rattle.definitions.specs.History.{history}
+use Rattle.definitions.specs.Reply.{Accepted, Stored, reply, stored, out}
+use Rattle.definitions.specs.Decision.{standing, recalled}
+use Rattle.definitions.specs.Accepted.{own_of, reply_to, is_accepted, entry_of, after, accepted_on}
+use Rattle.definitions.proofs.DecisionLaws.{reply-by}
+use Rattle.definitions.proofs.TextLaws.{same_text}
 use Rattle.store.specs.Again.{is_enrolment}
 use Rattle.store.proofs.Repeats.{owner_in, key_is, known_told}
 use Rattle.store.proofs.Replies.{after_accepted, accepted_text}

@@ -1,7 +1,7 @@
 -- How changes of a book follow one another.
 use Rattle.std.proofs.Common.{◌≡◌, ◌∙◌, sym, refl, arith, List, ◌⊎◌, inl, inr, Result, Ok, Err, OnErr}
 use Rattle.std.proofs.lemmas.Result.{IfErr-weaker}
-use Rattle.profile.specs.Register.{Entry}
+use Rattle.definitions.specs.Register.{Entry}
 use Rattle.store.specs.Fault.{Fault}
 use Rattle.store.specs.Standing.{Standing, IsUsable, KeepsLegal, IsUnchanged, GoesOn, LeavesEither, IsFault, IsReading, IsQueryFault, Refused}
 

@@ -1,14 +1,14 @@
 -- Commands in a list: what was answered to the first ones, and one more.
 use Rattle.std.proofs.Common.{◌≡◌, ℕ, true, List, [], ◌∷◌, ◌++◌, length, refl, sym, ap, ◌∙◌, subst, arith, take, get_or, suc, zero, ◌<◌, ◌≤◌, ◌+◌}
 use Rattle.std.specs.Cmp.Derive.{both_true}
-use Rattle.profile.specs.declared.rules.Rules.{Rules}
-use Rattle.profile.specs.declared.rules.Rules.TheVariants.{Two}
-use Rattle.profile.specs.Moments.{Moment}
-use Rattle.profile.specs.Header.{Who}
-use Rattle.profile.specs.Register.{Entry}
-use Rattle.profile.specs.Reply.{Reply}
-use Rattle.profile.specs.Accepted.{reply_to, after, accepted_on, replies_on, is_command}
-use Rattle.profile.proofs.TextLaws.{both_parts}
+use Rattle.definitions.specs.declared.rules.Rules.{Rules}
+use Rattle.definitions.specs.Rules.{Today}
+use Rattle.definitions.specs.Moments.{Moment}
+use Rattle.definitions.specs.Header.{Who}
+use Rattle.definitions.specs.Register.{Entry}
+use Rattle.definitions.specs.Reply.{Reply}
+use Rattle.definitions.specs.Accepted.{reply_to, after, accepted_on, replies_on, is_command}
+use Rattle.definitions.proofs.TextLaws.{both_parts}
 use Rattle.rules.specs.Asked.{asked}
 use Rattle.rules.specs.Command.{Command as Asking}
 use Rattle.store.specs.Runs.{all_asked, asked_at, can_be_given}
@@ -76,15 +76,15 @@ given_fewer [] n (suc k) le given = refl
 given_fewer (c ∷ cs) n zero le given = refl
 given_fewer (c ∷ cs) zero (suc k) le given = absurd (omega (arith, le))
 given_fewer (c ∷ cs) (suc n) (suc k) le given =
-    let both = both_parts (is_command Two (asked c.0)) (can_be_given (take n cs)) given in
+    let both = both_parts (is_command Today (asked c.0)) (can_be_given (take n cs)) given in
     both_true both.0 (given_fewer cs n k (omega (arith, le)) both.1)
 
 -- and the one at a place that they reach
-given_within : (cs : List (Asking × Moment)) (n i : ℕ) (d : Asking × Moment) → i < n → can_be_given (take n cs) ≡ true → i < length cs → is_command Two (asked (get_or cs i d).0) ≡ true
+given_within : (cs : List (Asking × Moment)) (n i : ℕ) (d : Asking × Moment) → i < n → can_be_given (take n cs) ≡ true → i < length cs → is_command Today (asked (get_or cs i d).0) ≡ true
 given_within [] n i d less given lt = absurd (omega (arith, lt))
 given_within (c ∷ cs) zero i d less given lt = absurd (omega (arith, less))
-given_within (c ∷ cs) (suc n) zero d less given lt = (both_parts (is_command Two (asked c.0)) (can_be_given (take n cs)) given).0
-given_within (c ∷ cs) (suc n) (suc i) d less given lt = given_within cs n i d (omega (arith, less)) (both_parts (is_command Two (asked c.0)) (can_be_given (take n cs)) given).1 (omega (arith, lt))
+given_within (c ∷ cs) (suc n) zero d less given lt = (both_parts (is_command Today (asked c.0)) (can_be_given (take n cs)) given).0
+given_within (c ∷ cs) (suc n) (suc i) d less given lt = given_within cs n i d (omega (arith, less)) (both_parts (is_command Today (asked c.0)) (can_be_given (take n cs)) given).1 (omega (arith, lt))
 
-pub given_item : (cs : List (Asking × Moment)) (n i : ℕ) (item : Asking × Moment) → i < n → can_be_given (take n cs) ≡ true → i < length cs → item ≡ get_or cs i item → is_command Two (asked item.0) ≡ true
-given_item cs n i item less given lt is = ap (λ (x : Asking × Moment). is_command Two (asked x.0)) is ∙ given_within cs n i item less given lt
+pub given_item : (cs : List (Asking × Moment)) (n i : ℕ) (item : Asking × Moment) → i < n → can_be_given (take n cs) ≡ true → i < length cs → item ≡ get_or cs i item → is_command Today (asked item.0) ≡ true
+given_item cs n i item less given lt is = ap (λ (x : Asking × Moment). is_command Today (asked x.0)) is ∙ given_within cs n i item less given lt

@@ -2,20 +2,19 @@
 use Rattle.std.proofs.Common.{◌≡◌, ℕ, ◌<◌, ◌+◌, Bool, true, false, not, List, [], ◌∷◌, ◌++◌, length, take, drop, get_or, suc, zero, refl, sym, ap, ◌∙◌, subst, arith, Option, Some, None, option_map, append-nil}
 use Rattle.std.specs.Prelude.{◌&&◌, ◌==◌, if◌then◌else◌, find, bytes_eq}
 use Rattle.std.proofs.lemmas.Bool.{eqb-true}
-use Rattle.profile.specs.declared.rules.Rules.TheVariants.{Two}
-use Rattle.profile.specs.Rules.{rules_number}
-use Rattle.profile.specs.Header.{Who, who_eq}
-use Rattle.profile.specs.Register.{Entry, Known, known, own, mark, is_numbered}
-use Rattle.profile.specs.History.{history, after_entry}
-use Rattle.profile.specs.Decision as decided
-use Rattle.profile.specs.Decision.{standing, recalled}
-use Rattle.profile.specs.Tables.{number_of, TableRow, Number, Text, Blob, entry_row, entries_on, entry_rules_row, entry_rules_on}
-use Rattle.profile.specs.Header.{who_text, is_partner}
-use Rattle.profile.specs.Moments.{stamp}
-use Rattle.profile.specs.Limits.{most_entries}
-use Rattle.profile.specs.Readings.{is_entry}
-use Rattle.profile.specs.History.{History}
-use Rattle.profile.proofs.RegisterLaws.{entry_table-determines}
+use Rattle.definitions.specs.Rules.{Today, rules_number}
+use Rattle.definitions.specs.Header.{Who, who_eq}
+use Rattle.definitions.specs.Register.{Entry, Known, known, own, mark, is_numbered}
+use Rattle.definitions.specs.History.{history, after_entry}
+use Rattle.definitions.specs.Decision as decided
+use Rattle.definitions.specs.Decision.{standing, recalled}
+use Rattle.definitions.specs.Tables.{number_of, TableRow, Number, Text, Blob, entry_row, entries_on, entry_rules_row, entry_rules_on}
+use Rattle.definitions.specs.Header.{who_text, is_partner}
+use Rattle.definitions.specs.Moments.{stamp}
+use Rattle.definitions.specs.Limits.{most_entries}
+use Rattle.definitions.specs.Readings.{is_entry}
+use Rattle.definitions.specs.History.{History}
+use Rattle.definitions.proofs.RegisterLaws.{entry_table-determines}
 use Rattle.rules.specs.Played.{is_clean}
 use Rattle.rules.proofs.Follows.{legal_follow}
 use Rattle.std.proofs.lemmas.List.{length_push, take_more}
@@ -24,14 +23,14 @@ use Rattle.std.specs.Option.{option_or}
 use Rattle.std.specs.Prelude.{cond}
 use Rattle.std.proofs.Math.Seq.{take-length}
 use Rattle.std.specs.Prelude.{◌≤◌, IsTrue}
-use Rattle.profile.specs.Accepted.{IsLegal}
-use Rattle.profile.specs.Reply.{out, stored}
-use Rattle.profile.proofs.TextLaws.{text_is, both_parts}
-use Rattle.profile.proofs.HistoryLaws.{history-numbered, history_snoc}
-use Rattle.profile.proofs.DecisionLaws.{out-by}
+use Rattle.definitions.specs.Accepted.{IsLegal}
+use Rattle.definitions.specs.Reply.{out, stored}
+use Rattle.definitions.proofs.TextLaws.{text_is, both_parts}
+use Rattle.definitions.proofs.HistoryLaws.{history-numbered, history_snoc}
+use Rattle.definitions.proofs.DecisionLaws.{out-by}
 use Rattle.rules.specs.Pages.{PageFacts, IsSound}
-use Rattle.profile.specs.History.{events}
-use Rattle.profile.specs.Rows.{StockRow, shown_row, stock_rows, stock_of}
+use Rattle.definitions.specs.History.{events}
+use Rattle.definitions.specs.Rows.{StockRow, shown_row, stock_rows, stock_of}
 use Rattle.rules.proofs.Rowed.{rows_are}
 use Rattle.std.specs.Prelude.{map, unwrap_or}
 use Rattle.rules.specs.Decided.{IsPageOf, IsRecalled}
@@ -219,12 +218,12 @@ rules_of before (e ∷ L) =
     ap (λ (rs : List TableRow). entry_rules_row before e ∷ rs)
     (rules_of (before ++ e ∷ []) L ∙ ap (λ n. rules_from n (written_on (before ++ e ∷ []) L)) (one_longer before e))
 
-pub one_register : (V W : Who) (L M : List Entry) → IsLegal Two V L → IsLegal Two W M → all_written L ≡ all_written M → L ≡ M
+pub one_register : (V W : Who) (L M : List Entry) → IsLegal Today V L → IsLegal Today W M → all_written L ≡ all_written M → L ≡ M
 one_register V W L M l m e =
     entry_table-determines V W L M l m (rows_of [] L ∙ ap (rows_from 0) e ∙ sym (rows_of [] M))
     (rules_of [] L ∙ ap (rules_from 0) e ∙ sym (rules_of [] M))
 
-pub nothing_legal : (W : Who) → IsTrue (is_partner W) → IsLegal Two W []
+pub nothing_legal : (W : Who) → IsTrue (is_partner W) → IsLegal Today W []
 nothing_legal W h = record { first = []; commands = []; of_a_partner = h; first_given = refl; given = refl; left = refl }
 
 -- one entry more that is written down
@@ -249,15 +248,15 @@ Replays W page w p text = (h : History) (e : Entry) → IsBefore page h e → w 
     → is_entry e ≡ true → is_clean e.deed ≡ true → IsReplayed W h e p text
 
 pub replayed_at : (W : Who) (X : List Entry) (e : Entry) (later : List Entry) (who : Who) (w : Written) (page : Option PageFacts) (p : PageFacts) (text : List ℕ)
-    → IsLegal Two W (X ++ e ∷ later) → w ≡ written X e → e.who ≡ who → IsHeldFor page (standing (own X who)) → Replays W page w p text
+    → IsLegal Today W (X ++ e ∷ later) → w ≡ written X e → e.who ≡ who → IsHeldFor page (standing (own X who)) → Replays W page w p text
     → IsReplayed W (history (own X e.who)) e p text
 replayed_at W X e later who w page p text legal row same held replays =
-    let follow = legal_follow Two W (X ++ e ∷ later) X e later legal refl in
+    let follow = legal_follow Today W (X ++ e ∷ later) X e later legal refl in
     let at : IsHeldFor page (standing (own X e.who)) = subst (λ d. IsHeldFor page (standing (own X d))) (sym same) held in
     replays (history (own X e.who)) e (before_is page (own X e.who) e at follow.numbered) (written_later X e w row) follow.few follow.good follow.clean
 
 pub text_at : (W : Who) (X : List Entry) (e : Entry) (later : List Entry) (who : Who) (w : Written) (page : Option PageFacts) (p : PageFacts) (text : List ℕ)
-    → IsLegal Two W (X ++ e ∷ later) → w ≡ written X e → e.who ≡ who → IsHeldFor page (standing (own X who)) → Replays W page w p text
+    → IsLegal Today W (X ++ e ∷ later) → w ≡ written X e → e.who ≡ who → IsHeldFor page (standing (own X who)) → Replays W page w p text
     → text ≡ out W (own X e.who) e
 text_at W X e later who w page p text legal row same held replays =
     (replayed_at W X e later who w page p text legal row same held replays).outgoing ∙ sym (out-by W (own X e.who) e)
@@ -266,7 +265,7 @@ one_more : (i : ℕ) → i + 1 ≡ suc i
 one_more i = omega arith
 
 pub held_next : (W : Who) (L later : List Entry) (i : ℕ) (w : Written) (who : Who) (page : Option PageFacts) (p : PageFacts) (text : List ℕ)
-    → IsLegal Two W (L ++ later) → i < length (all_written L) → w ≡ get_or (all_written L) i w → who_eq w.who who ≡ true
+    → IsLegal Today W (L ++ later) → i < length (all_written L) → w ≡ get_or (all_written L) i w → who_eq w.who who ≡ true
     → IsHeldFor page (standing (own (take i L) who)) → Replays W page w p text → IsHeldFor (Some p) (standing (own (take (i + 1) L) who))
 held_next W L later i w who page p text legal lt is whose held replays =
     let t = there_on [] L i w lt is in
@@ -275,7 +274,7 @@ held_next W L later i w who page p text legal lt is whose held replays =
     let of_e : w.who ≡ e.who = ap (λ (x : Written). x.who) t.1.row in
     let same : e.who ≡ who = sym of_e ∙ who_is w.who who whose in
     let all : L ++ later ≡ X ++ e ∷ (drop (suc i) L ++ later) = ap (λ (M : List Entry). M ++ later) t.1.split ∙ assoc X e (drop (suc i) L) later in
-    let r = replayed_at W X e (drop (suc i) L ++ later) who w page p text (subst (IsLegal Two W) all legal) t.1.row same held replays in
+    let r = replayed_at W X e (drop (suc i) L ++ later) who w page p text (subst (IsLegal Today W) all legal) t.1.row same held replays in
     let after : IsHeldFor (Some p) (standing (own X e.who ++ e ∷ [])) = held_after W (own X e.who) e p text r in
     let grown : own (take (i + 1) L) who ≡ own X e.who ++ e ∷ [] =
     ap (λ n. own (take n L) who) (one_more i) ∙ ap (λ (M : List Entry). own M who) t.1.more

@@ -1,8 +1,8 @@
 -- The moments of entries, by what is written down of them.
 use Rattle.std.proofs.Common.{◌≡◌, ℕ, zero, suc, List, [], ◌∷◌, ◌++◌, slice_get, length, ◌-◌, Option, refl, ap, ◌∙◌}
 use Rattle.std.specs.Prelude.{option_map}
-use Rattle.profile.specs.Moments.{Moment}
-use Rattle.profile.specs.Register.{Entry}
+use Rattle.definitions.specs.Moments.{Moment}
+use Rattle.definitions.specs.Register.{Entry}
 use Rattle.rules.specs.Written.{Written}
 use Rattle.store.specs.Extent.{last_moment}
 use Rattle.store.specs.Replayed.{all_written, written_on}

@@ -1,11 +1,11 @@
 -- What a depositor has open by its page, and who is enrolled by what is written down.
 use Rattle.std.proofs.Common.{◌≡◌, Bool, true, false, not, List, [], ◌∷◌, ◌++◌, map, refl, ap, ◌∙◌, Some}
 use Rattle.std.specs.Prelude.{filter, nat_lt, count_by}
-use Rattle.profile.specs.Header.{Who}
-use Rattle.profile.specs.History.{history, events}
-use Rattle.profile.specs.Decision.{standing}
-use Rattle.profile.specs.Page.{PageAdvice, page_advices}
-use Rattle.profile.specs.Register.{Entry, own, is_numbered}
+use Rattle.definitions.specs.Header.{Who}
+use Rattle.definitions.specs.History.{history, events}
+use Rattle.definitions.specs.Decision.{standing}
+use Rattle.definitions.specs.Page.{PageAdvice, page_advices}
+use Rattle.definitions.specs.Register.{Entry, own, is_numbered}
 use Rattle.rules.specs.Pages.{PageFacts, IsSound}
 use Rattle.rules.specs.Decided.{IsPageOf}
 use Rattle.rules.specs.Written.{Written, written}

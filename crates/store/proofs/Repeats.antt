@@ -2,18 +2,18 @@
 use Rattle.std.proofs.Common.{◌≡◌, ℕ, Bool, true, false, List, [], ◌∷◌, ◌++◌, refl, sym, ap, ◌∙◌, Option, Some, option_map, bytes_eq}
 use Rattle.std.specs.Prelude.{◌&&◌, not}
 use Rattle.std.specs.Cmp.Derive.{both_true}
-use Rattle.profile.specs.declared.rules.Rules.{Rules}
-use Rattle.profile.specs.Moments.{Moment}
-use Rattle.profile.specs.Header.{Who, who_eq, isa, is_unreadable, is_partner, sender}
-use Rattle.profile.specs.Register.{interchange_mark, ticket_mark, Act, Command, Interchange, Enrol, Clerk, Entry, Deed, Enrolled, Received, Performed, Known, known, own, mark, command_mark, canonical}
-use Rattle.profile.specs.History.{History, history}
-use Rattle.profile.specs.Reply.{reply, stored}
-use Rattle.profile.specs.Decision as decided
-use Rattle.profile.specs.Decision.{standing, recalled, reply_by}
-use Rattle.profile.specs.Accepted.{own_of, reply_to, is_accepted, entry_of, after}
-use Rattle.profile.proofs.DecisionLaws.{reply-by}
-use Rattle.profile.proofs.TextLaws.{same_text}
-use Rattle.profile.proofs.RegisterLaws.{of_a_stranger}
+use Rattle.definitions.specs.declared.rules.Rules.{Rules}
+use Rattle.definitions.specs.Moments.{Moment}
+use Rattle.definitions.specs.Header.{Who, who_eq, isa, is_unreadable, is_partner, sender}
+use Rattle.definitions.specs.Register.{interchange_mark, ticket_mark, Act, Command, Interchange, Enrol, Clerk, Entry, Deed, Enrolled, Received, Performed, Known, known, own, mark, command_mark, canonical}
+use Rattle.definitions.specs.History.{History, history}
+use Rattle.definitions.specs.Reply.{reply, stored}
+use Rattle.definitions.specs.Decision as decided
+use Rattle.definitions.specs.Decision.{standing, recalled, reply_by}
+use Rattle.definitions.specs.Accepted.{own_of, reply_to, is_accepted, entry_of, after}
+use Rattle.definitions.proofs.DecisionLaws.{reply-by}
+use Rattle.definitions.proofs.TextLaws.{same_text}
+use Rattle.definitions.proofs.RegisterLaws.{of_a_stranger}
 use Rattle.store.proofs.Entries.{own_same, some_more}
 use Rattle.store.proofs.Replies.{after_accepted, after_other}
 

@@ -4,37 +4,37 @@ use Rattle.std.specs.Prelude.{◌==◌, if◌then◌else◌}
 use Rattle.std.specs.Cmp.Derive.{both_true}
 use Rattle.std.proofs.lemmas.List.Folds.{list_all-append}
 use Rattle.std.proofs.lemmas.Bool.{eqb-true}
-use Rattle.profile.specs.declared.rules.Rules.{Rules}
-use Rattle.profile.specs.declared.rules.Rules.TheVariants.{One, Two}
-use Rattle.profile.specs.Moments.{Moment, is_moment}
-use Rattle.profile.specs.Header.{Who, is_partner, sender, is_unreadable}
-use Rattle.profile.specs.Register.{Act, Command, Interchange, Enrol, Clerk, Entry, Deed, Enrolled, Received, Performed, Known, known, own, command_mark, ticket_mark, next_number, mark, canonical}
-use Rattle.profile.specs.declared.refusals.Refusal.{Refusal}
-use Rattle.profile.specs.declared.refusals.Refusal.TheVariants.{NumbersUsedUp, AlreadyEnrolled, TicketUsed, UnknownDepositor}
-use Rattle.profile.specs.Halt.{Halt, Refuses, Repeats, halt}
-use Rattle.profile.specs.Clerk.{performed}
-use Rattle.profile.specs.Events.{Event}
-use Rattle.profile.specs.History.{history, events}
-use Rattle.profile.specs.Reply.{Reply, Accepted, Stored, Refused, reply, accepted, accepted_act, out, numbers_used_up, reply_to_halt, interchange_entry, clerk_entry, by_ticket, known_ticket, enrol_reply, stored}
-use Rattle.profile.specs.Accepted.{depositor_of, subject, own_of, reply_to, is_accepted, entry_of, after, accepted_on, replies_on, is_command, IsLegal}
-use Rattle.profile.specs.Decision as meant
-use Rattle.profile.specs.Decision.{recalled, standing, reply_by}
-use Rattle.profile.proofs.DecisionLaws.{reply-by}
+use Rattle.definitions.specs.declared.rules.Rules.{Rules}
+use Rattle.definitions.specs.declared.rules.Rules.TheVariants.{One, Two}
+use Rattle.definitions.specs.Moments.{Moment, is_moment}
+use Rattle.definitions.specs.Header.{Who, is_partner, sender, is_unreadable}
+use Rattle.definitions.specs.Register.{Act, Command, Interchange, Enrol, Clerk, Entry, Deed, Enrolled, Received, Performed, Known, known, own, command_mark, ticket_mark, next_number, mark, canonical}
+use Rattle.definitions.specs.declared.refusals.Refusal.{Refusal}
+use Rattle.definitions.specs.declared.refusals.Refusal.TheVariants.{NumbersUsedUp, AlreadyEnrolled, TicketUsed, UnknownDepositor}
+use Rattle.definitions.specs.Halt.{Halt, Refuses, Repeats, halt}
+use Rattle.definitions.specs.Clerk.{performed}
+use Rattle.definitions.specs.Events.{Event}
+use Rattle.definitions.specs.History.{history, events}
+use Rattle.definitions.specs.Reply.{Reply, Accepted, Stored, Refused, reply, accepted, accepted_act, out, numbers_used_up, reply_to_halt, interchange_entry, clerk_entry, by_ticket, known_ticket, enrol_reply, stored}
+use Rattle.definitions.specs.Accepted.{depositor_of, subject, own_of, reply_to, is_accepted, entry_of, after, accepted_on, replies_on, is_command, IsLegal}
+use Rattle.definitions.specs.Decision as meant
+use Rattle.definitions.specs.Decision.{recalled, standing, reply_by}
+use Rattle.definitions.proofs.DecisionLaws.{reply-by}
 use Rattle.rules.specs.Pages.{PageFacts}
 use Rattle.rules.specs.Decided.{StandsFor, IsRecalled, IsUnder, IsGiven, entries_of}
 use Rattle.rules.specs.Replies.{IsEntry, IsReply, number_later}
 use Rattle.rules.specs.Written.{Recalled}
 use Rattle.rules.specs.Decision.{Decision}
-use Rattle.profile.specs.History.{History}
+use Rattle.definitions.specs.History.{History}
 use Rattle.store.specs.Held.{IsHeld, IsDecided}
-use Rattle.profile.specs.Need.{need_of}
+use Rattle.definitions.specs.Need.{need_of}
 use Rattle.rules.proofs.Whole.{held_stands}
 use Rattle.store.specs.Standing.{IsNext}
-use Rattle.profile.specs.Tables.{number_of}
-use Rattle.profile.proofs.TextLaws.{text_is}
-use Rattle.profile.proofs.RegisterLaws.{of_a_stranger}
-use Rattle.profile.proofs.HistoryLaws.{history-numbered}
-use Rattle.profile.specs.Changes.{LeadOn}
+use Rattle.definitions.specs.Tables.{number_of}
+use Rattle.definitions.proofs.TextLaws.{text_is}
+use Rattle.definitions.proofs.RegisterLaws.{of_a_stranger}
+use Rattle.definitions.proofs.HistoryLaws.{history-numbered}
+use Rattle.definitions.specs.Changes.{LeadOn}
 use Rattle.rules.specs.Change.{Change}
 use Rattle.rules.specs.Tabled.{table_changes}
 use Rattle.rules.specs.Written.{Written, written, written_as}

@@ -4,19 +4,19 @@ use Rattle.std.specs.Prelude.{if◌then◌else◌, nat_lt, filter, option_to_lis
 use Rattle.std.proofs.Math.Seq.{take-length}
 use Rattle.std.proofs.lemmas.Bool.{eqb-true, lt-ltb}
 use Rattle.std.proofs.lemmas.List.Elements.{filter-append}
-use Rattle.profile.specs.declared.rules.Rules.{Rules}
-use Rattle.profile.specs.declared.rules.Rules.TheVariants.{Two}
-use Rattle.profile.specs.Accepted.{IsLegal}
-use Rattle.profile.specs.Decision.{standing}
-use Rattle.profile.specs.Moments.{Moment}
-use Rattle.profile.specs.Header.{Who, who_eq}
-use Rattle.profile.specs.Events.{Event}
-use Rattle.profile.specs.History.{history, events}
-use Rattle.profile.specs.Page.{PageDocument}
-use Rattle.profile.specs.Register.{Deed, Enrolled, Received, Performed, Entry, own, is_numbered, next_number, deed_mark, body_of}
-use Rattle.profile.specs.Reply.{out}
-use Rattle.profile.specs.Rows.{OutRow, out_row, outgoing_on, outbox_rows, outbox_of, act_function, act_kind, state_text, said_of}
-use Rattle.profile.specs.Tables.{number_of}
+use Rattle.definitions.specs.declared.rules.Rules.{Rules}
+use Rattle.definitions.specs.Rules.{Today}
+use Rattle.definitions.specs.Accepted.{IsLegal}
+use Rattle.definitions.specs.Decision.{standing}
+use Rattle.definitions.specs.Moments.{Moment}
+use Rattle.definitions.specs.Header.{Who, who_eq}
+use Rattle.definitions.specs.Events.{Event}
+use Rattle.definitions.specs.History.{history, events}
+use Rattle.definitions.specs.Page.{PageDocument}
+use Rattle.definitions.specs.Register.{Deed, Enrolled, Received, Performed, Entry, own, is_numbered, next_number, deed_mark, body_of}
+use Rattle.definitions.specs.Reply.{out}
+use Rattle.definitions.specs.Rows.{OutRow, out_row, outgoing_on, outbox_rows, outbox_of, act_function, act_kind, state_text, said_of}
+use Rattle.definitions.specs.Tables.{number_of}
 use Rattle.rules.specs.Pages.{PageFacts, document_at}
 use Rattle.rules.specs.Shows.{document_of, sent_under}
 use Rattle.rules.specs.Decided.{IsPageOf}
@@ -77,7 +77,7 @@ own_split X Y e who whose = own_append X (e ∷ Y) who ∙ ap (λ (b : Bool). ow
 
 -- a place in a register's entries, of a depositor or another
 pub record IsPlace (W : Who) (L : List Entry) (i : ℕ) (who : Who) (p : PageFacts) (w : Written) : Type 0 where
-  pub legal : IsLegal Two W L
+  pub legal : IsLegal Today W L
   pub within : i < length (all_written L)
   pub row : w ≡ get_or (all_written L) i w
   pub page : IsPageOf p (history (own L who))
@@ -150,7 +150,7 @@ row_there W L i who p w e text at there whose counts content =
     ap (λ (x : Written). x.n) there.row ∙ ap (λ (b : Bool). if b then next_number (own (take i L) e.who) else 0) counts ∙ ap (λ d. next_number (own (take i L) d)) same in
     let split = ap (λ (K : List Entry). own K who) there.split ∙ own_split (take i L) (drop (suc i) L) e who (ap (λ (x : Written). who_eq x.who who) (sym there.row) ∙ whose) in
     row_by W (events (own L who)) M e.who e.moment e.deed e.rules p w.n text number (content ∙ ap (λ d. out W (own (take i L) d) e) same)
-    at.page.shows.documents (sent_under_own Two W L who M e (own (drop (suc i) L) who) at.legal split counts)
+    at.page.shows.documents (sent_under_own Today W L who M e (own (drop (suc i) L) who) at.legal split counts)
 
 -- what an entry that counts sent out is its row, unless it is nothing
 adds_counted : (W : Who) (L : List Entry) (i : ℕ) (who : Who) (p : PageFacts) (w : Written) (e : Entry) (text : List ℕ) (rows : List OutRow) → IsPlace W L i who p w → IsThere [] L i w e
@@ -165,10 +165,10 @@ adds_counted W L i who p w e text rows at there whose counts content is =
 
 -- what is said of a place's text, where one is made from the entries before it
 abbrev pub TextOf : Who → List Entry → Written → List ℕ → Type 0
-TextOf W X w text = (e : Entry) (later : List Entry) → w ≡ written X e → IsLegal Two W (X ++ e ∷ later) → text ≡ out W (own X e.who) e
+TextOf W X w text = (e : Entry) (later : List Entry) → w ≡ written X e → IsLegal Today W (X ++ e ∷ later) → text ≡ out W (own X e.who) e
 
-text_there : (W : Who) (L : List Entry) (i : ℕ) (w : Written) (e : Entry) (text : List ℕ) → IsLegal Two W L → IsThere [] L i w e → TextOf W (take i L) w text → text ≡ out W (own (take i L) e.who) e
-text_there W L i w e text legal there made = made e (drop (suc i) L) there.row (subst (IsLegal Two W) there.split legal)
+text_there : (W : Who) (L : List Entry) (i : ℕ) (w : Written) (e : Entry) (text : List ℕ) → IsLegal Today W L → IsThere [] L i w e → TextOf W (take i L) w text → text ≡ out W (own (take i L) e.who) e
+text_there W L i w e text legal there made = made e (drop (suc i) L) there.row (subst (IsLegal Today W) there.split legal)
 
 content_of : (ds : List PageDocument) (d : Deed) (n : ℕ) (text : List ℕ) → has_content (sent_row ds d n text) ≡ nat_lt 0 (length text)
 content_of ds Enrolled n text = refl
@@ -194,7 +194,7 @@ adds_sent W L i who p w text row at whose counts made full is =
     ∙ ap (λ (r : OutRow). r ∷ []) (sym this))
 
 -- a place of a list of entries that are those of a register
-pub placed : (W : Who) (L : List Entry) (ws : List Written) (i : ℕ) (who : Who) (p : PageFacts) (w : Written) → ws ≡ all_written L → IsLegal Two W L → IsPageOf p (history (own L who))
+pub placed : (W : Who) (L : List Entry) (ws : List Written) (i : ℕ) (who : Who) (p : PageFacts) (w : Written) → ws ≡ all_written L → IsLegal Today W L → IsPageOf p (history (own L who))
     → i < length ws → w ≡ get_or ws i w → IsPlace W L i who p w
 placed W L ws i who p w is legal page within row = record {
   legal = legal;
@@ -212,7 +212,7 @@ is_something [] h = absurd (cc (h))
 is_something (x ∷ text) h = lt-ltb 0 (length (x ∷ text)) (omega arith)
 
 pub text_of : (W : Who) (L : List Entry) (ws : List Written) (i : ℕ) (w : Written) (text : List ℕ) → ws ≡ all_written L
-    → ((M : List Entry) (e : Entry) (later : List Entry) → take i ws ≡ all_written M → w ≡ written M e → IsLegal Two W (M ++ e ∷ later) → text ≡ out W (own M e.who) e)
+    → ((M : List Entry) (e : Entry) (later : List Entry) → take i ws ≡ all_written M → w ≡ written M e → IsLegal Today W (M ++ e ∷ later) → text ≡ out W (own M e.who) e)
     → TextOf W (take i L) w text
 text_of W L ws i w text is made = λ e later row legal. made (take i L) e later (ap (λ (vs : List Written). take i vs) is ∙ written_take [] L i) row legal
 

@@ -1,7 +1,7 @@
 -- How far a register goes.
 use Rattle.std.specs.Prelude.{ℕ, ◌-◌, List, length, slice_get, Option, option_map}
-use Rattle.profile.specs.Moments.{Moment}
-use Rattle.profile.specs.Register.{Entry}
+use Rattle.definitions.specs.Moments.{Moment}
+use Rattle.definitions.specs.Register.{Entry}
 use Rattle.store.specs.declared.keeping.Extent.{Extent}
 
 -- the moment of the last entry; None where there is none

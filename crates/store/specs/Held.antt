@@ -1,13 +1,13 @@
 -- The page that a book hands out, and the decision that it leads to.
 use Rattle.std.specs.Prelude.{List, Option, Some, None}
-use Rattle.profile.specs.declared.rules.Rules.{Rules}
-use Rattle.profile.specs.History.{History, history}
+use Rattle.definitions.specs.declared.rules.Rules.{Rules}
+use Rattle.definitions.specs.History.{History, history}
 use Rattle.rules.specs.Pages.{PageFacts}
-use Rattle.profile.specs.Header.{Who}
-use Rattle.profile.specs.Moments.{Moment}
-use Rattle.profile.specs.Need.{Need}
-use Rattle.profile.specs.Register.{Command, Entry}
-use Rattle.profile.specs.Accepted.{own_of, reply_to}
+use Rattle.definitions.specs.Header.{Who}
+use Rattle.definitions.specs.Moments.{Moment}
+use Rattle.definitions.specs.Need.{Need}
+use Rattle.definitions.specs.Register.{Command, Entry}
+use Rattle.definitions.specs.Accepted.{own_of, reply_to}
 use Rattle.rules.specs.Decided.{IsHeldPart, IsPageOf}
 use Rattle.rules.specs.Replies.{IsReply}
 use Rattle.rules.specs.Decision.{Decision}

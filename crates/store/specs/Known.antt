@@ -1,7 +1,7 @@
 -- What is known under a key, as the register has it.
 use Rattle.std.specs.Prelude.{ℕ, List, Option, find}
-use Rattle.profile.specs.Header.{Who}
-use Rattle.profile.specs.Register.{Entry}
+use Rattle.definitions.specs.Header.{Who}
+use Rattle.definitions.specs.Register.{Entry}
 use Rattle.rules.specs.Written.{Written}
 use Rattle.store.specs.Replayed.{all_written, is_under}
 

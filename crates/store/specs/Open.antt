@@ -1,9 +1,9 @@
 -- What a depositor has open, and who is enrolled.
 use Rattle.std.specs.Prelude.{not, ◌==◌, List, map, length, if◌then◌else◌, filter, Option, Some, None}
-use Rattle.profile.specs.Header.{Who}
-use Rattle.profile.specs.History.{events}
-use Rattle.profile.specs.Page.{PageAdvice, PageOrder, page_advices, page_orders}
-use Rattle.profile.specs.Register.{Entry, is_numbered, own}
+use Rattle.definitions.specs.Header.{Who}
+use Rattle.definitions.specs.History.{events}
+use Rattle.definitions.specs.Page.{PageAdvice, PageOrder, page_advices, page_orders}
+use Rattle.definitions.specs.Register.{Entry, is_numbered, own}
 use Rattle.rules.specs.Pages.{PageFacts}
 
 -- advices that aren't counted and orders that aren't picked, each in the order of its numbers

@@ -1,7 +1,7 @@
 -- What a replaying book keeps: the warehouse, and the entries as they are written down.
 use Rattle.std.specs.Prelude.{ℕ, Bool, ◌&&◌, List, [], ◌∷◌, ◌++◌, bytes_eq}
-use Rattle.profile.specs.Header.{Who, who_eq}
-use Rattle.profile.specs.Register.{Entry}
+use Rattle.definitions.specs.Header.{Who, who_eq}
+use Rattle.definitions.specs.Register.{Entry}
 use Rattle.rules.specs.Written.{Written, written}
 
 pub record Replay : Type 0 where

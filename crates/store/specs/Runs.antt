@@ -1,11 +1,11 @@
 -- What commands are answered, in the words of the definitions.
 use Rattle.std.specs.Prelude.{Bool, List, map}
 use Rattle.std.specs.List.{list_all}
-use Rattle.profile.specs.declared.rules.Rules.TheVariants.{Two}
-use Rattle.profile.specs.Moments.{Moment}
-use Rattle.profile.specs.Register as meant
-use Rattle.profile.specs.Reply as replies
-use Rattle.profile.specs.Accepted.{is_command}
+use Rattle.definitions.specs.Rules.{Today}
+use Rattle.definitions.specs.Moments.{Moment}
+use Rattle.definitions.specs.Register as meant
+use Rattle.definitions.specs.Reply as replies
+use Rattle.definitions.specs.Accepted.{is_command}
 use Rattle.rules.specs.Asked.{asked}
 use Rattle.rules.specs.Command.{Command}
 use Rattle.store.specs.declared.serving.Reply.{Reply}
@@ -27,7 +27,7 @@ all_asked cs = map asked_at cs
 -- commands that can be given: a clerk's ticket, shipment and order are identifiers, and the sheet
 -- is one of its act
 abbrev pub can_be_given : List (Command × Moment) → Bool
-can_be_given cs = list_all (λ (c : Command × Moment). is_command Two (asked c.0)) cs
+can_be_given cs = list_all (λ (c : Command × Moment). is_command Today (asked c.0)) cs
 
 -- a fact that holds unless a command was accepted
 abbrev pub UnlessAccepted : Reply → Type 0 → Type 0

@@ -1,10 +1,10 @@
 -- The rows of the outbox, by what a page says of its documents.
 use Rattle.std.specs.Prelude.{ℕ, Bool, List, [], codes, ◌==◌, nat_lt, length, filter, find, option_map, Option, Some, None}
-use Rattle.profile.specs.Header.{Who}
-use Rattle.profile.specs.Register.{Deed, Performed, Entry}
-use Rattle.profile.specs.Events.{Event}
-use Rattle.profile.specs.Rows.{OutRow, act_kind, outbox_of, outbox_rows, outgoing_on, state_text}
-use Rattle.profile.specs.Page.{PageDocument}
+use Rattle.definitions.specs.Header.{Who}
+use Rattle.definitions.specs.Register.{Deed, Performed, Entry}
+use Rattle.definitions.specs.Events.{Event}
+use Rattle.definitions.specs.Rows.{OutRow, act_kind, outbox_of, outbox_rows, outgoing_on, state_text}
+use Rattle.definitions.specs.Page.{PageDocument}
 use Rattle.store.specs.declared.rows.DocumentState.{DocumentState}
 use Rattle.store.specs.declared.rows.DocumentState.TheVariants.{Unasked, Open, Accepted, Refused}
 

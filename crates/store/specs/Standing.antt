@@ -1,11 +1,11 @@
 -- How a book stands, whichever way it is kept.
 use Rattle.std.specs.Prelude.{ℕ, ◌-◌, ◌^◌, ◌<◌, ◌≤◌, ◌≡◌, ◌⊎◌, ◌++◌, ◌∷◌, [], List, Bool, true, false, Result, IfErr, IsErrOf}
-use Rattle.profile.specs.declared.rules.Rules.TheVariants.{Two}
-use Rattle.profile.specs.Header.{Who}
-use Rattle.profile.specs.Register.{Entry, own}
-use Rattle.profile.specs.Reply.{out}
-use Rattle.profile.specs.Accepted.{IsLegal}
-use Rattle.profile.specs.Changes.{LeadOn}
+use Rattle.definitions.specs.Rules.{Today}
+use Rattle.definitions.specs.Header.{Who}
+use Rattle.definitions.specs.Register.{Entry, own}
+use Rattle.definitions.specs.Reply.{out}
+use Rattle.definitions.specs.Accepted.{IsLegal}
+use Rattle.definitions.specs.Changes.{LeadOn}
 use Rattle.rules.specs.Change.{Change}
 use Rattle.rules.specs.Tabled.{table_changes}
 use Rattle.rules.specs.Written.{Written, written}
@@ -33,7 +33,7 @@ pub record LeavesEither (s : Standing) (first second : List Entry) : Type 0 wher
 -- that register alone
 pub record IsUsable (s : Standing) (L : List Entry) : Type 0 where
   pub opened : s.shut ≡ false
-  pub legal : IsLegal Two s.warehouse L
+  pub legal : IsLegal Today s.warehouse L
   pub keeps : s.keeps L
   pub stand : s.all_stand
   pub only : (M : List Entry) → s.left M → M ≡ L
@@ -42,7 +42,7 @@ pub record IsUsable (s : Standing) (L : List Entry) : Type 0 where
 -- leaves
 pub record KeepsLegal (s : Standing) (L : List Entry) : Type 0 where
   pub keeps : s.keeps L
-  pub legal : IsLegal Two s.warehouse L
+  pub legal : IsLegal Today s.warehouse L
 
 -- of any register that the book keeps, if the disk is in no doubt after the call
 abbrev pub OfAnyKept : Standing → Standing → (List Entry → Type 0) → Type 0
@@ -50,7 +50,7 @@ OfAnyKept old new P = new.doubt ≡ 0 → (L : List Entry) → old.keeps L → P
 
 -- of one that is legal
 abbrev pub OfKept : Standing → Standing → (List Entry → Type 0) → Type 0
-OfKept old new P = OfAnyKept old new (λ L. IsLegal Two old.warehouse L → P L)
+OfKept old new P = OfAnyKept old new (λ L. IsLegal Today old.warehouse L → P L)
 
 -- of the register of a book that serves, if the disk is in no doubt after the call
 abbrev pub OfUsable : Standing → Standing → (List Entry → Type 0) → Type 0
@@ -120,6 +120,6 @@ pub record IsNext
     (W : Who) (L : List Entry) (e : Entry) (row : Written) (changes : List Change) (text : List ℕ)
     : Type 0 where
   pub entry : row ≡ written L e
-  pub legal : IsLegal Two W (L ++ e ∷ [])
-  pub leads : LeadOn Two W L e (table_changes e.who changes)
+  pub legal : IsLegal Today W (L ++ e ∷ [])
+  pub leads : LeadOn Today W L e (table_changes e.who changes)
   pub outgoing : text ≡ out W (own L e.who) e

@@ -1,7 +1,7 @@
 ghost use Rattle.std.specs.Prelude.{◌<◌, ◌≡◌, ◌++◌, ◌∷◌, [], Bool, true, false, IfOk, OnOk, OnErr, IfErr, IsErrOf, option_map};
-ghost use Rattle.profile.specs.Register as register;
-ghost use Rattle.profile.specs.Decision as decided;
-ghost use Rattle.profile.specs.Rows.{stock_of, outbox_of};
+ghost use Rattle.definitions.specs.Register as register;
+ghost use Rattle.definitions.specs.Decision as decided;
+ghost use Rattle.definitions.specs.Rows.{stock_of, outbox_of};
 ghost use Rattle.rules.specs.Asked.{mark_of};
 ghost use Rattle.rules.specs.Decided.{IsAtRest, IsRecalled};
 ghost use Rattle.store.specs.Extent as meant;
@@ -13,7 +13,7 @@ ghost use Rattle.store.specs.Sent.{text_of};
 ghost use Rattle.store.specs.Standing.{Standing, IsUsable, IsNext, IsUnchanged, GoesOn, LeavesEither, IsFault, IsCommitFault, IsQuery, OfAnyKept, OfKept, OfUsable};
 
 use crate::rows::{OutRow, StockRow};
-use profile::Fault;
+use definitions::Fault;
 use rules::{Change, Entry, Key, Known, Moment, Need, Page, Warehouse, Who};
 
 /// How far a register goes.

@@ -1,11 +1,11 @@
 //! Laws of runs: nothing runs, each contract is a law.
 ghost use Rattle.std.specs.Prelude.{◌≡◌, ℕ, List, true, false};
-ghost use Rattle.profile.specs.declared.rules.Rules.{Rules};
-ghost use Rattle.profile.specs.Accepted.{accepted_on, after, is_accepted, reply_to};
-ghost use Rattle.profile.specs.Header.{Who};
-ghost use Rattle.profile.specs.Moments.{Moment};
-ghost use Rattle.profile.specs.Register.{Command, Entry};
-ghost use Rattle.profile.specs.Reply.{Accepted, Stored};
+ghost use Rattle.definitions.specs.declared.rules.Rules.{Rules};
+ghost use Rattle.definitions.specs.Accepted.{accepted_on, after, is_accepted, reply_to};
+ghost use Rattle.definitions.specs.Header.{Who};
+ghost use Rattle.definitions.specs.Moments.{Moment};
+ghost use Rattle.definitions.specs.Register.{Command, Entry};
+ghost use Rattle.definitions.specs.Reply.{Accepted, Stored};
 ghost use Rattle.store.specs.Again.{is_enrolment};
 
 /// An accepted command that is given again, at any moment, leaves the register as it was, and with

@@ -1,5 +1,5 @@
 ghost use Rattle.std.specs.Prelude.{◌≡◌, List};
-ghost use Rattle.profile.specs.Register as register;
+ghost use Rattle.definitions.specs.Register as register;
 ghost use Rattle.store.specs.Standing.{IsUsable};
 
 use crate::keeping::Keeper;

@@ -10,9 +10,9 @@ mod rows;
 mod sending;
 mod serving;
 
+pub use definitions::Fault;
 pub use keeping::{Extent, Keeper};
 pub use leaving::{memory_is_never_in_doubt, what_is_kept_is_left};
-pub use profile::Fault;
 pub use replaying::ReplayBook;
 pub use rows::{DocumentState, OutRow, StockRow};
 pub use rules::{

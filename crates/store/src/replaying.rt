@@ -1,13 +1,13 @@
 ghost use Rattle.std.specs.Prelude.{◌≡◌, [], ◌∷◌, ◌++◌, List, None, IfOk, OnOk, OnErr, MatchOption, find, option_map, Option, ℕ, ◌<◌, ◌+◌, length, take, slice_index_or as get_or};
-ghost use Rattle.profile.specs.declared.rules.Rules.TheVariants.{Two};
-ghost use Rattle.profile.specs.Accepted.{IsLegal};
-ghost use Rattle.profile.specs.Decision.{standing as history_of, recalled};
-ghost use Rattle.profile.specs.Register as register;
-ghost use Rattle.profile.specs.Reply.{out};
-ghost use Rattle.profile.specs.Rows.{stock_rows, stock_of};
-ghost use Rattle.profile.specs.History.{History, history};
-ghost use Rattle.profile.specs.Header.{Who as Partner};
-ghost use Rattle.profile.specs.Need as meant;
+ghost use Rattle.definitions.specs.Rules.{Today};
+ghost use Rattle.definitions.specs.Accepted.{IsLegal};
+ghost use Rattle.definitions.specs.Decision.{standing as history_of, recalled};
+ghost use Rattle.definitions.specs.Register as register;
+ghost use Rattle.definitions.specs.Reply.{out};
+ghost use Rattle.definitions.specs.Rows.{stock_rows, stock_of};
+ghost use Rattle.definitions.specs.History.{History, history};
+ghost use Rattle.definitions.specs.Header.{Who as Partner};
+ghost use Rattle.definitions.specs.Need as meant;
 ghost use Rattle.rules.specs.Decided.{IsAtRest, IsRecalled, IsPageOf};
 ghost use Rattle.rules.specs.Written.{written};
 ghost use Rattle.rules.specs.Pages.{IsAt};
@@ -21,7 +21,7 @@ ghost use Rattle.store.specs.Standing.{IsUsable};
 use crate::keeping::{Extent, Keeper};
 use crate::rows::{OutRow, StockRow};
 use crate::sending::{content_of, sent_to};
-use profile::Fault;
+use definitions::Fault;
 use rules::{Change, Entry, Key, Known, Moment, Need, Page, Warehouse, Who, replay};
 use std::alloc::{AllocError, Global};
 use std::marker::Model;
@@ -68,7 +68,8 @@ fn with_entry(
 ) -> Result<Option<Page>, AllocError>
     requires { IsAtRest page }
 
-    ensures page { (L later : List register.Entry) (i : ℕ) → IsLegal Two warehouse.now (L ++ later)
+    ensures page { (L later : List register.Entry) (i : ℕ)
+        → IsLegal Today warehouse.now (L ++ later)
         → i < length (all_written L) → entry.now ≡ get_or (all_written L) i entry.now
         → IsHeldFor page (history_of (register.own (take i L) who.now))
         → IfOk result (λ next. IsHeldFor next (history_of
@@ -90,7 +91,7 @@ fn page_later(
     who: &Who,
 ) -> Result<Option<Page>, AllocError>
     ensures page { (L later : List register.Entry) → entries.now ≡ all_written L
-        → IsLegal Two warehouse.now (L ++ later)
+        → IsLegal Today warehouse.now (L ++ later)
         → IfOk result (λ page. IsHeldFor page (history_of (register.own L who.now))) }
     ensures rest { IfOk result IsAtRest }
 {
@@ -127,7 +128,7 @@ pub(crate) fn outgoing_later(
 ) -> Result<Vec<u8>, AllocError>
     ensures { (L : List register.Entry) (e : register.Entry) (later : List register.Entry)
         → before.now ≡ all_written L → entry.now ≡ written L e
-        → IsLegal Two warehouse.now (L ++ e ∷ later)
+        → IsLegal Today warehouse.now (L ++ e ∷ later)
         → IfOk result (λ text. text.items ≡ out warehouse.now (register.own L e.who) e) }
 {
     let page = page_later(alloc, warehouse, before, &entry.who())?;
@@ -156,7 +157,7 @@ fn recalled(
     mark: &[u8],
 ) -> Result<Option<Known>, AllocError>
     ensures known { (L : List register.Entry) → entries.now ≡ all_written L
-        → IsLegal Two warehouse.now L
+        → IsLegal Today warehouse.now L
         → IfOk result (λ known. IsRecalled known
         (recalled warehouse.now mark.now (register.own L who.now))) }
     ensures recorded { IfOk result (λ known. option_map
@@ -231,7 +232,7 @@ impl ReplayBook {
     // The whole page of a depositor; None for a stranger.
     fn page(&self, who: &Who) -> Result<Option<Page>, AllocError>
         ensures page { (L : List register.Entry) → self.now.entries ≡ all_written L
-            → IsLegal Two self.now.warehouse L
+            → IsLegal Today self.now.warehouse L
             → IfOk result (λ page. IsHeldFor page (history_of (register.own L who.now))) }
         ensures rest { IfOk result IsAtRest }
     {
@@ -241,14 +242,14 @@ impl ReplayBook {
 
 impl Keeper for ReplayBook {
     ghost use Rattle.std.specs.Prelude.{false, ◌≡◌};
-    ghost use Rattle.profile.specs.declared.rules.Rules.TheVariants.{Two};
-    ghost use Rattle.profile.specs.Accepted.{IsLegal};
+    ghost use Rattle.definitions.specs.Rules.{Today};
+    ghost use Rattle.definitions.specs.Accepted.{IsLegal};
     ghost use Rattle.store.specs.Replayed.{all_written};
 
     ghost standing = { λ b. record {
       warehouse = b.warehouse;
       keeps = λ L. b.entries ≡ all_written L;
-      left = λ L. (b.entries ≡ all_written L) × IsLegal Two b.warehouse L;
+      left = λ L. (b.entries ≡ all_written L) × IsLegal Today b.warehouse L;
       all_stand = Unit {0};
       doubt = 0;
       refusals = 0;

@@ -1,6 +1,6 @@
 ghost use Rattle.std.specs.Prelude.{◌≡◌, IfOk, map, MatchOption};
-ghost use Rattle.profile.specs.Register.{Deed, deed_mark, body_of};
-ghost use Rattle.profile.specs.Rows.{shown_row, state_text};
+ghost use Rattle.definitions.specs.Register.{Deed, deed_mark, body_of};
+ghost use Rattle.definitions.specs.Rows.{shown_row, state_text};
 ghost use Rattle.store.specs.Sent.{state_name, said_under, sent_row};
 
 use rules::{Entry, OutKind, Page, Row};
@@ -28,7 +28,7 @@ pub struct StockRow {
 
 impl Model for StockRow {
     ghost use Rattle.std.specs.Prelude.{option_map};
-    ghost use Rattle.profile.specs.Rows.{StockRow};
+    ghost use Rattle.definitions.specs.Rows.{StockRow};
 
     ghost Value = { StockRow };
 
@@ -109,7 +109,7 @@ pub struct OutRow {
 }
 
 impl Model for OutRow {
-    ghost use Rattle.profile.specs.Rows.{OutRow};
+    ghost use Rattle.definitions.specs.Rows.{OutRow};
     ghost use Rattle.rules.specs.Kinds.{kind_text};
     ghost use Rattle.store.specs.Sent.{state_name};
 

@@ -1,12 +1,12 @@
 //! What went out, given again from the register.
 ghost use Rattle.std.specs.Prelude.{◌≡◌, ◌==◌, ◌++◌, List, None, IfOk, find, option_map, Option, ◌<◌, ◌+◌, length, take, option_to_list};
-ghost use Rattle.profile.specs.declared.rules.Rules.TheVariants.{Two};
-ghost use Rattle.profile.specs.Accepted.{IsLegal};
-ghost use Rattle.profile.specs.Decision.{standing as history_of};
-ghost use Rattle.profile.specs.Register as register;
-ghost use Rattle.profile.specs.Reply.{out};
-ghost use Rattle.profile.specs.Rows.{outbox_rows, outbox_of};
-ghost use Rattle.profile.specs.History.{history, events};
+ghost use Rattle.definitions.specs.Rules.{Today};
+ghost use Rattle.definitions.specs.Accepted.{IsLegal};
+ghost use Rattle.definitions.specs.Decision.{standing as history_of};
+ghost use Rattle.definitions.specs.Register as register;
+ghost use Rattle.definitions.specs.Reply.{out};
+ghost use Rattle.definitions.specs.Rows.{outbox_rows, outbox_of};
+ghost use Rattle.definitions.specs.History.{history, events};
 ghost use Rattle.rules.specs.Decided.{IsPageOf};
 ghost use Rattle.store.specs.Held.{IsHeldFor};
 ghost use Rattle.store.specs.Replayed.{all_written};
@@ -30,7 +30,7 @@ fn sent_at(
     requires { i < length entries.now }
 
     ensures { IfOk result (λ row. (L : List register.Entry) → entries.now ≡ all_written L
-        → IsLegal Two warehouse.now L → IsPageOf page.now (history (register.own L who.now))
+        → IsLegal Today warehouse.now L → IsPageOf page.now (history (register.own L who.now))
         → sent_on warehouse.now (events (register.own L who.now))
         (register.own (take (i + 1) L) who.now)
         ≡ sent_on warehouse.now (events (register.own L who.now)) (register.own (take i L) who.now)
@@ -60,7 +60,7 @@ fn sent(
     who: &Who,
 ) -> Result<Vec<OutRow>, AllocError>
     ensures { IfOk result (λ rows. (L : List register.Entry) → entries.now ≡ all_written L
-        → IsLegal Two warehouse.now L → IsPageOf page.now (history (register.own L who.now))
+        → IsLegal Today warehouse.now L → IsPageOf page.now (history (register.own L who.now))
         → rows.items ≡ outbox_rows warehouse.now (register.own L who.now)) }
 {
     let mut rows = Vec::new(alloc);
@@ -81,7 +81,7 @@ pub(crate) fn sent_to(
     who: &Who,
 ) -> Result<Option<Vec<OutRow>>, AllocError>
     ensures { IfOk result (λ rows. (L : List register.Entry) → entries.now ≡ all_written L
-        → IsLegal Two warehouse.now L → IsHeldFor page (history_of (register.own L who.now))
+        → IsLegal Today warehouse.now L → IsHeldFor page (history_of (register.own L who.now))
         → option_map (λ v. v.items) rows ≡ outbox_of warehouse.now L who.now) }
 {
     match page {

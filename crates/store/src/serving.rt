@@ -1,11 +1,11 @@
 ghost use Rattle.std.specs.Prelude.{◌≡◌, ◌++◌, ◌∷◌, [], List, None, Bool, true, false, IfOk, OnOk, OnErr, IsErrOf, IfErr, IfSome, IsSome, IsNone, option_map, length, ◌<◌, ◌≤◌, ◌+◌};
 ghost use Rattle.std.specs.Prelude.{take, map, IsTrue};
 ghost use Rattle.std.specs.List.{list_all};
-ghost use Rattle.profile.specs.declared.rules.Rules.TheVariants.{Two};
-ghost use Rattle.profile.specs.Register as register;
-ghost use Rattle.profile.specs.Accepted.{IsLegal, is_command, own_of, reply_to, after, accepted_on, replies_on};
-ghost use Rattle.profile.specs.Decision.{standing as history_of, recalled};
-ghost use Rattle.profile.specs.Rows.{stock_of, outbox_of};
+ghost use Rattle.definitions.specs.Rules.{Today};
+ghost use Rattle.definitions.specs.Register as register;
+ghost use Rattle.definitions.specs.Accepted.{IsLegal, is_command, own_of, reply_to, after, accepted_on, replies_on};
+ghost use Rattle.definitions.specs.Decision.{standing as history_of, recalled};
+ghost use Rattle.definitions.specs.Rows.{stock_of, outbox_of};
 ghost use Rattle.rules.specs.Asked.{asked};
 ghost use Rattle.rules.specs.Decided.{LeadsInTables};
 ghost use Rattle.store.specs.Held.{IsDecided};
@@ -15,7 +15,7 @@ ghost use Rattle.store.specs.Standing.{Standing, IsUsable, IsUnchanged, GoesOn, 
 
 use crate::keeping::Keeper;
 use crate::rows::{OutRow, StockRow};
-use profile::{Fault, Rules};
+use definitions::{Fault, Rules, TODAY};
 use rules::{Command, Decision, Moment, Refusal, Who, decide, decide_again, need, subject};
 use std::alloc::Global;
 
@@ -107,17 +107,17 @@ pub fn submit_under<K: Keeper>(
         (λ L. IfOk result (λ reply. told reply ≡ reply_to rules (K.standing keeper.old).warehouse L
         (asked command.now) moment)) }
     ensures ok { OfUsable (K.standing keeper.old) (K.standing keeper.new)
-        (λ L. IsLegal Two (K.standing keeper.old).warehouse
+        (λ L. IsLegal Today (K.standing keeper.old).warehouse
         (after rules (K.standing keeper.old).warehouse L (asked command.now, moment))
         → OnOk result (IsUsable (K.standing keeper.new)
         (after rules (K.standing keeper.old).warehouse L (asked command.now, moment)))) }
     ensures keeps { OfKept (K.standing keeper.old) (K.standing keeper.new)
-        (λ L. IsLegal Two (K.standing keeper.old).warehouse
+        (λ L. IsLegal Today (K.standing keeper.old).warehouse
         (after rules (K.standing keeper.old).warehouse L (asked command.now, moment))
         → OnOk result (KeepsLegal (K.standing keeper.new)
         (after rules (K.standing keeper.old).warehouse L (asked command.now, moment)))) }
     ensures left { OfUsable (K.standing keeper.old) (K.standing keeper.new)
-        (λ L. IsLegal Two (K.standing keeper.old).warehouse
+        (λ L. IsLegal Today (K.standing keeper.old).warehouse
         (after rules (K.standing keeper.old).warehouse L (asked command.now, moment))
         → OnErr result (LeavesEither (K.standing keeper.new) L
         (after rules (K.standing keeper.old).warehouse L
@@ -160,20 +160,20 @@ pub fn submit<K: Keeper>(
     moment: Moment,
 ) -> Result<Reply, Fault>
     ensures reply { OfKept (K.standing keeper.old) (K.standing keeper.new)
-        (λ L. IfOk result (λ reply. told reply ≡ reply_to Two (K.standing keeper.old).warehouse L
+        (λ L. IfOk result (λ reply. told reply ≡ reply_to Today (K.standing keeper.old).warehouse L
         (asked command.now) moment)) }
     ensures ok { OfUsable (K.standing keeper.old) (K.standing keeper.new)
-        (λ L. is_command Two (asked command.now) ≡ true
+        (λ L. is_command Today (asked command.now) ≡ true
         → OnOk result (IsUsable (K.standing keeper.new)
-        (after Two (K.standing keeper.old).warehouse L (asked command.now, moment)))) }
+        (after Today (K.standing keeper.old).warehouse L (asked command.now, moment)))) }
     ensures keeps { OfKept (K.standing keeper.old) (K.standing keeper.new)
-        (λ L. is_command Two (asked command.now) ≡ true
+        (λ L. is_command Today (asked command.now) ≡ true
         → OnOk result (KeepsLegal (K.standing keeper.new)
-        (after Two (K.standing keeper.old).warehouse L (asked command.now, moment)))) }
+        (after Today (K.standing keeper.old).warehouse L (asked command.now, moment)))) }
     ensures left { OfUsable (K.standing keeper.old) (K.standing keeper.new)
-        (λ L. is_command Two (asked command.now) ≡ true
+        (λ L. is_command Today (asked command.now) ≡ true
         → OnErr result (LeavesEither (K.standing keeper.new) L
-        (after Two (K.standing keeper.old).warehouse L
+        (after Today (K.standing keeper.old).warehouse L
         (asked command.now, moment)))) }
     ensures kept { IfOk result
         (λ reply. UnlessAccepted reply (IsUnchanged (K.standing keeper.old)
@@ -185,7 +185,7 @@ pub fn submit<K: Keeper>(
         × IsUnchanged (K.standing keeper.old) (K.standing keeper.new) }
     ensures goes { GoesOn (K.standing keeper.old) (K.standing keeper.new) }
 {
-    submit_under(alloc, keeper, command, moment, Rules::Two)
+    submit_under(alloc, keeper, command, moment, TODAY)
 }
 
 /// What would be answered to a command now, under the rules of the day. Nothing is committed: the
@@ -197,14 +197,14 @@ pub fn try_out<K: Keeper>(
     moment: Moment,
 ) -> Result<Reply, Fault>
     ensures reply { OfKept (K.standing keeper.old) (K.standing keeper.new)
-        (λ L. IfOk result (λ reply. told reply ≡ reply_to Two (K.standing keeper.old).warehouse L
+        (λ L. IfOk result (λ reply. told reply ≡ reply_to Today (K.standing keeper.old).warehouse L
         (asked command.now) moment)) }
     ensures query { IsQuery (K.standing keeper.old) (K.standing keeper.new) result }
 {
     if keeper.must_reopen() {
         return Err(Fault::Reopen);
     }
-    match judge(alloc, keeper, command, moment, Rules::Two)? {
+    match judge(alloc, keeper, command, moment, TODAY)? {
         Decision::Stored(text) => Ok(Reply::Stored(text)),
         Decision::Refused(refusal, answer) => Ok(Reply::Refused { refusal, answer }),
         Decision::Accepted { outgoing, .. } => Ok(Reply::Accepted(outgoing)),
@@ -259,22 +259,22 @@ fn answer_next<K: Keeper>(
     replies: &mut Vec<Reply>,
 ) -> Result<(), Fault>
     ensures reply { OfKept (K.standing keeper.old) (K.standing keeper.new)
-        (λ L. OnOk result (map told replies.new.items ≡ map told replies.old.items ++ reply_to Two
+        (λ L. OnOk result (map told replies.new.items ≡ map told replies.old.items ++ reply_to Today
         (K.standing keeper.old).warehouse L (asked command.now) moment ∷ [])) }
     ensures ok { OfUsable (K.standing keeper.old) (K.standing keeper.new)
-        (λ L. is_command Two (asked command.now) ≡ true
+        (λ L. is_command Today (asked command.now) ≡ true
         → OnOk result (IsUsable (K.standing keeper.new)
-        (after Two (K.standing keeper.old).warehouse L (asked command.now, moment)))) }
+        (after Today (K.standing keeper.old).warehouse L (asked command.now, moment)))) }
     ensures keeps { OfKept (K.standing keeper.old) (K.standing keeper.new)
-        (λ L. is_command Two (asked command.now) ≡ true
+        (λ L. is_command Today (asked command.now) ≡ true
         → OnOk result (KeepsLegal (K.standing keeper.new)
-        (after Two (K.standing keeper.old).warehouse L (asked command.now, moment)))) }
+        (after Today (K.standing keeper.old).warehouse L (asked command.now, moment)))) }
     ensures more { OnOk result (length replies.new.items ≡ length replies.old.items + 1) }
     ensures no_more { OnErr result (replies.new.items ≡ replies.old.items) }
     ensures left { OfUsable (K.standing keeper.old) (K.standing keeper.new)
-        (λ L. is_command Two (asked command.now) ≡ true
+        (λ L. is_command Today (asked command.now) ≡ true
         → OnErr result (LeavesEither (K.standing keeper.new) L
-        (after Two (K.standing keeper.old).warehouse L
+        (after Today (K.standing keeper.old).warehouse L
         (asked command.now, moment)))) }
     ensures opened { OnOk result ((K.standing keeper.old).shut ≡ (K.standing keeper.new).shut) }
     ensures fault { IfErr result
@@ -297,21 +297,21 @@ pub fn run<K: Keeper>(alloc: Global, keeper: &mut K, commands: &[(Command<'_>, M
     ensures stopped { IsSome result.fault → length result.replies.items < length commands.now }
     ensures replies { OfUsable (K.standing keeper.old) (K.standing keeper.new)
         (λ L. can_be_given (take (length result.replies.items + 1) commands.now) ≡ true
-        → map told result.replies.items ≡ replies_on Two (K.standing keeper.old).warehouse L
+        → map told result.replies.items ≡ replies_on Today (K.standing keeper.old).warehouse L
         (take (length result.replies.items) (all_asked commands.now))) }
     ensures left { OfUsable (K.standing keeper.old) (K.standing keeper.new)
         (λ L. can_be_given (take (length result.replies.items + 1) commands.now) ≡ true
         → (K.standing keeper.new).shut ≡ false
         → IsUsable (K.standing keeper.new)
-        (accepted_on Two (K.standing keeper.old).warehouse L (take (length
+        (accepted_on Today (K.standing keeper.old).warehouse L (take (length
         result.replies.items) (all_asked commands.now)))) }
     ensures broken { OfUsable (K.standing keeper.old) (K.standing keeper.new)
         (λ L. can_be_given (take (length result.replies.items + 1) commands.now) ≡ true
         → (K.standing keeper.new).shut ≡ true
         → IsSome result.fault × LeavesEither (K.standing keeper.new)
-        (accepted_on Two (K.standing keeper.old).warehouse L
+        (accepted_on Today (K.standing keeper.old).warehouse L
         (take (length result.replies.items) (all_asked commands.now)))
-        (accepted_on Two (K.standing keeper.old).warehouse L (take (length result.replies.items
+        (accepted_on Today (K.standing keeper.old).warehouse L (take (length result.replies.items
         + 1) (all_asked
         commands.now)))) }
     ensures goes { GoesOn (K.standing keeper.old) (K.standing keeper.new) }

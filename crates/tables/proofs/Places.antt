@@ -1,11 +1,11 @@
 -- Where segments may stand.
 use Rattle.std.proofs.Common.{◌≡◌, ℕ, Bool, true, false, List, refl, ap, Some, None}
 use Rattle.std.specs.Prelude.{if◌then◌else◌}
-use Rattle.profile.specs.declared.rules.Rules.{Rules}
-use Rattle.profile.specs.Bytes.{Delims}
-use Rattle.profile.specs.Cut.{Segment, id_of}
-use Rattle.profile.specs.Words.{Words, has_word, words_after}
-use Rattle.profile.specs.Faults.{fault_at, inner_fault, place_fault}
+use Rattle.definitions.specs.declared.rules.Rules.{Rules}
+use Rattle.definitions.specs.Bytes.{Delims}
+use Rattle.definitions.specs.Cut.{Segment, id_of}
+use Rattle.definitions.specs.Words.{Words, has_word, words_after}
+use Rattle.definitions.specs.Faults.{fault_at, inner_fault, place_fault}
 use Rattle.tables.specs.Languages.{found}
 
 pub found_some : (w v : Words) → Some v ≡ found w → (has_word w ≡ true) × (w ≡ v)

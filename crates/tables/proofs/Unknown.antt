@@ -3,11 +3,11 @@ use Rattle.std.proofs.Common.{◌≡◌, ℕ, zero, suc, Bool, true, false, List
 use Rattle.std.specs.Prelude.{◌&&◌, ◌==◌, bytes_eq, codes, if◌then◌else◌}
 use Rattle.std.proofs.lemmas.Bool.{or_from, or_parts, and_parts}
 use Rattle.std.proofs.lemmas.Slice.Eq.{bytes_eq-Decides}
-use Rattle.profile.specs.declared.rules.Rules.{Rules}
-use Rattle.profile.specs.Bytes.{Delims}
-use Rattle.profile.specs.Cut.{Segment, id_of}
-use Rattle.profile.specs.Words.{Words, Never, Empty, One, Then, Or, Times, words_after, has_word, has_empty, mentions}
-use Rattle.profile.specs.Faults.{SetFault, fault_at, inner_fault, place_fault, place_code, wanted_id}
+use Rattle.definitions.specs.declared.rules.Rules.{Rules}
+use Rattle.definitions.specs.Bytes.{Delims}
+use Rattle.definitions.specs.Cut.{Segment, id_of}
+use Rattle.definitions.specs.Words.{Words, Never, Empty, One, Then, Or, Times, words_after, has_word, has_empty, mentions}
+use Rattle.definitions.specs.Faults.{SetFault, fault_at, inner_fault, place_fault, place_code, wanted_id}
 use Rattle.tables.specs.Ids.{is_known}
 use Rattle.tables.specs.Stages.{rest_of}
 use Rattle.tables.specs.Advice as advice

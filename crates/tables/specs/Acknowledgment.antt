@@ -1,7 +1,7 @@
 -- What may still come at each stage of a 997.
 use Rattle.std.specs.Prelude.{codes}
-use Rattle.profile.specs.Words.{Words, One, Times, Then, Empty, words_997, times_words, then_words}
-use Rattle.profile.specs.Limits.{most_told_sets, most_told_segments, most_told_elements}
+use Rattle.definitions.specs.Words.{Words, One, Times, Then, Empty, words_997, times_words, then_words}
+use Rattle.definitions.specs.Limits.{most_told_sets, most_told_segments, most_told_elements}
 use Rattle.tables.specs.Languages.{some_of}
 use Rattle.tables.specs.declared.acknowledgment.Stage.{Stage}
 use Rattle.tables.specs.declared.acknowledgment.Stage.TheVariants.{Begin, Head, Sets, Segments, Elements, Total, End}

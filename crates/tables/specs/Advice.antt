@@ -1,8 +1,8 @@
 -- What may still come at each stage of a 943.
 use Rattle.std.specs.Prelude.{codes}
-use Rattle.profile.specs.declared.rules.Rules.{Rules}
-use Rattle.profile.specs.Words.{Words, One, Times, Then, Empty, words_943, times_words}
-use Rattle.profile.specs.Limits.{most_lines, most_parties, most_references, most_dates}
+use Rattle.definitions.specs.declared.rules.Rules.{Rules}
+use Rattle.definitions.specs.Words.{Words, One, Times, Then, Empty, words_943, times_words}
+use Rattle.definitions.specs.Limits.{most_lines, most_parties, most_references, most_dates}
 use Rattle.tables.specs.Languages.{some_of}
 use Rattle.tables.specs.declared.advice.Stage.{Stage}
 use Rattle.tables.specs.declared.advice.Stage.TheVariants.{Begin, Head, Parties, References, Dates, Goods, Lot, Total, End}

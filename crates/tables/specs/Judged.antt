@@ -1,12 +1,12 @@
 -- A set that has no fault by some rules.
 use Rattle.std.specs.Prelude.{◌≡◌, ◌-◌, ◌<◌, ◌^◌, List, codes, length, IsTrue, None, Option}
-use Rattle.profile.specs.declared.rules.Rules.{Rules}
-use Rattle.profile.specs.Cut.{Piece, segments_of, last_segment, has_id}
-use Rattle.profile.specs.Faults as meant
-use Rattle.profile.specs.Bytes.{Delims}
-use Rattle.profile.specs.Faults.{IsFaultOf, set_fault}
-use Rattle.profile.specs.Words.{kind_words}
-use Rattle.profile.specs.declared.set_kind.SetKind.{SetKind}
+use Rattle.definitions.specs.declared.rules.Rules.{Rules}
+use Rattle.definitions.specs.Cut.{Piece, segments_of, last_segment, has_id}
+use Rattle.definitions.specs.Faults as meant
+use Rattle.definitions.specs.Bytes.{Delims}
+use Rattle.definitions.specs.Faults.{IsFaultOf, set_fault}
+use Rattle.definitions.specs.Words.{kind_words}
+use Rattle.definitions.specs.declared.set_kind.SetKind.{SetKind}
 
 -- SE stands last
 abbrev pub EndsInSE : List Piece → Type 0

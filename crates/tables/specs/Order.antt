@@ -1,8 +1,8 @@
 -- What may still come at each stage of a 940.
 use Rattle.std.specs.Prelude.{codes}
-use Rattle.profile.specs.declared.rules.Rules.{Rules}
-use Rattle.profile.specs.Words.{Words, One, Times, Then, Empty, words_940, times_words, optional}
-use Rattle.profile.specs.Limits.{most_lines, most_parties, most_references, most_dates}
+use Rattle.definitions.specs.declared.rules.Rules.{Rules}
+use Rattle.definitions.specs.Words.{Words, One, Times, Then, Empty, words_940, times_words, optional}
+use Rattle.definitions.specs.Limits.{most_lines, most_parties, most_references, most_dates}
 use Rattle.tables.specs.Languages.{some_of}
 use Rattle.tables.specs.declared.order.Stage.{Stage}
 use Rattle.tables.specs.declared.order.Stage.TheVariants.{Begin, Head, Parties, Named, Streeted, References, Dates, Numbered, Goods, Pinned, Total, End}

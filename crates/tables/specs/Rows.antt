@@ -1,7 +1,7 @@
 -- Rows of segments as the program finds them: by an id, and whether a W04 or a W01 stands directly
 -- before.
 use Rattle.std.specs.Prelude.{ℕ, Bool, true, false, List, [], ◌∷◌, codes, bytes_eq}
-use Rattle.profile.specs.Bytes.{is_one_of}
+use Rattle.definitions.specs.Bytes.{is_one_of}
 use Rattle.tables.specs.declared.rows.After.{After}
 use Rattle.tables.specs.declared.rows.After.TheVariants.{Advised, Ordered, Else}
 

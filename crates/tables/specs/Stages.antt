@@ -1,6 +1,6 @@
 -- What may still come at each stage of a set.
-use Rattle.profile.specs.declared.rules.Rules.{Rules}
-use Rattle.profile.specs.Words.{Words}
+use Rattle.definitions.specs.declared.rules.Rules.{Rules}
+use Rattle.definitions.specs.Words.{Words}
 use Rattle.tables.specs.Advice as advice
 use Rattle.tables.specs.Order as order
 use Rattle.tables.specs.Acknowledgment as acknowledgment

@@ -1,12 +1,12 @@
 ghost use Rattle.std.specs.Prelude.{◌≡◌, option_map};
-ghost use Rattle.profile.specs.Words.{words_after};
-ghost use Rattle.profile.specs.Faults.{wanted_id};
+ghost use Rattle.definitions.specs.Words.{words_after};
+ghost use Rattle.definitions.specs.Faults.{wanted_id};
 ghost use Rattle.tables.specs.Ids.{text_of};
 ghost use Rattle.tables.specs.Languages.{found};
 ghost use Rattle.tables.specs.Acknowledgment.{rest_of};
 
 use crate::ids::Id;
-use profile::{MOST_TOLD_ELEMENTS, MOST_TOLD_SEGMENTS, MOST_TOLD_SETS};
+use definitions::{MOST_TOLD_ELEMENTS, MOST_TOLD_SEGMENTS, MOST_TOLD_SETS};
 
 /// How far a 997 has come.
 #[derive(Clone, Copy)]

@@ -1,13 +1,13 @@
 ghost use Rattle.std.specs.Prelude.{◌≡◌, ◌<◌, ◌^◌, ◌-◌, codes, Some, None, MatchResult, length, option_map};
-ghost use Rattle.profile.specs.Cut.{segments_of, last_segment, has_id};
-ghost use Rattle.profile.specs.Words.{kind_words};
-ghost use Rattle.profile.specs.Faults.{IsFaultOf, set_fault};
+ghost use Rattle.definitions.specs.Cut.{segments_of, last_segment, has_id};
+ghost use Rattle.definitions.specs.Words.{kind_words};
+ghost use Rattle.definitions.specs.Faults.{IsFaultOf, set_fault};
 ghost use Rattle.tables.specs.Judged.{EndsInSE, IsJudged, IsUnfaulted, Whole};
 
 use crate::faults::{Progress, step};
 use crate::rows::After;
 use crate::stages::Stage;
-use profile::{Rules, SetKind};
+use definitions::{Rules, SetKind};
 use segments::{Delims, Segment, SetFault};
 use std::marker::Model;
 

@@ -1,9 +1,9 @@
 ghost use Rattle.std.specs.Prelude.{◌≡◌, ℕ, List, MatchResult, Some, None, map, option_map};
-ghost use Rattle.profile.specs.Cut.{id_of};
-ghost use Rattle.profile.specs.Elements as elements_meant;
-ghost use Rattle.profile.specs.declared.rules.Rules.{Rules};
-ghost use Rattle.profile.specs.Words.{words_after, kind_words};
-ghost use Rattle.profile.specs.Faults as meant;
+ghost use Rattle.definitions.specs.Cut.{id_of};
+ghost use Rattle.definitions.specs.Elements as elements_meant;
+ghost use Rattle.definitions.specs.declared.rules.Rules.{Rules};
+ghost use Rattle.definitions.specs.Words.{words_after, kind_words};
+ghost use Rattle.definitions.specs.Faults as meant;
 ghost use Rattle.segments.specs.Rows.{row_of};
 ghost use Rattle.tables.specs.Ids.{text_of};
 ghost use Rattle.tables.specs.Rows.{is_goods, after_goods, is_advised, after_advised};
@@ -12,7 +12,7 @@ ghost use Rattle.tables.specs.Stages.{rest_of};
 use crate::ids::Id;
 use crate::rows::{After, rows_of};
 use crate::stages::{Stage, misplaced};
-use profile::{Rules, SetKind};
+use definitions::{Rules, SetKind};
 use segments::{Delims, ElementRow, Segment, SetFault, faulty_element};
 
 /// How far a set has come.

@@ -13,4 +13,4 @@ mod rows;
 mod stages;
 
 pub use checked::{Checked, is_closed, judge};
-pub use profile::SetKind;
+pub use definitions::SetKind;

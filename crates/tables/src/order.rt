@@ -1,13 +1,13 @@
 ghost use Rattle.std.specs.Prelude.{◌≡◌, option_map};
-ghost use Rattle.profile.specs.declared.rules.Rules.{Rules};
-ghost use Rattle.profile.specs.Words.{words_after};
-ghost use Rattle.profile.specs.Faults.{wanted_id};
+ghost use Rattle.definitions.specs.declared.rules.Rules.{Rules};
+ghost use Rattle.definitions.specs.Words.{words_after};
+ghost use Rattle.definitions.specs.Faults.{wanted_id};
 ghost use Rattle.tables.specs.Ids.{text_of};
 ghost use Rattle.tables.specs.Languages.{found};
 ghost use Rattle.tables.specs.Order.{lines, rest_of};
 
 use crate::ids::Id;
-use profile::{MOST_DATES, MOST_LINES, MOST_LINES_TWO, MOST_PARTIES, MOST_REFERENCES, Rules};
+use definitions::{MOST_DATES, MOST_LINES, MOST_LINES_TWO, MOST_PARTIES, MOST_REFERENCES, Rules};
 
 /// How far a 940 has come.
 #[derive(Clone, Copy)]

@@ -1,12 +1,12 @@
 ghost use Rattle.std.specs.Prelude.{◌≡◌, ◌∷◌, [], ℕ, List, Some, codes, map, option_map, IfSome};
-ghost use Rattle.profile.specs.Elements as meant;
-ghost use Rattle.profile.specs.Faults.{rows_after};
+ghost use Rattle.definitions.specs.Elements as meant;
+ghost use Rattle.definitions.specs.Faults.{rows_after};
 ghost use Rattle.segments.specs.Rows.{row_of};
 ghost use Rattle.tables.specs.Ids.{text_of};
 ghost use Rattle.tables.specs.Rows.{is_goods, after_goods, is_advised, after_advised};
 
 use crate::ids::Id;
-use profile::{
+use definitions::{
     ADVICE_TOTAL_DIGITS, ADVICE_TOTAL_DIGITS_TWO, CONTROL_DIGITS, DATE_DIGITS,
     DATE_QUALIFIER_BYTES, ELEMENT_DIGITS, FUNCTION_BYTES, LEAST_CITY, LEAST_CODE, LEAST_COUNTRY,
     LEAST_POSTAL, LEAST_QUALIFIER, LEAST_SEGMENT, LEAST_SET_CONTROL, LINE_DIGITS, MOST_CASE,

@@ -1,14 +1,14 @@
 ghost use Rattle.std.specs.Prelude.{◌≡◌, option_map};
-ghost use Rattle.profile.specs.declared.rules.Rules.{Rules};
-ghost use Rattle.profile.specs.Words.{words_after, kind_words, mentions};
-ghost use Rattle.profile.specs.Faults.{wanted_id, place_code};
+ghost use Rattle.definitions.specs.declared.rules.Rules.{Rules};
+ghost use Rattle.definitions.specs.Words.{words_after, kind_words, mentions};
+ghost use Rattle.definitions.specs.Faults.{wanted_id, place_code};
 ghost use Rattle.tables.specs.Ids.{text_of};
 ghost use Rattle.tables.specs.Languages.{found};
 ghost use Rattle.tables.specs.Stages.{rest_of};
 
 use crate::ids::Id;
 use crate::{acknowledgment, advice, order};
-use profile::{Rules, SetKind};
+use definitions::{Rules, SetKind};
 
 /// How far a set of one of the kinds has come.
 #[derive(Clone, Copy)]

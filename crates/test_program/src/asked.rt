@@ -1,17 +1,17 @@
 //! What a command with `--server` prints of the responses that it gets.
 //!
-//! The cases are those of `cases::clerks`, and of `data/asked/faults.cases` those whose responses
-//! are faults. In `data/asked/unasked.rows` each row is a line that asks nobody, and what is told
-//! of it.
+//! The cases are those of `case_files::clerks`, and of `data/asked/faults.cases` those whose
+//! responses are faults. In `data/asked/unasked.rows` each row is a line that asks nobody, and what
+//! is told of it.
 use crate::ran::{Ran, Wanted, run_words};
 use crate::telling::{hold, tell};
 use crate::texts::text_of;
-use cases::clerks::{deeds, looks, response_of, strays};
-use cases::sections::section_of;
-use cases::spreading::spread;
+use case_files::clerks::{deeds, looks, response_of, strays};
+use case_files::sections::section_of;
+use case_files::spreading::spread;
 use commands::{CommandError, ExitStatus, Printer, tell_stop};
-use errands::remote::{ServerAnswer, Unanswered, read_answer};
-use errands::{tell_document, tell_report};
+use http_client::remote::{ServerAnswer, Unanswered, read_answer};
+use http_client::{tell_document, tell_report};
 use intake::Audience;
 use std::alloc::Global;
 use std::fs;

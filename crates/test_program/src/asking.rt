@@ -5,12 +5,12 @@
 use crate::ran::{Ran, Wanted};
 use crate::telling::{hold, tell};
 use crate::texts::text_of;
-use cases::clerks::response_of;
-use cases::sections::section_of;
+use case_files::clerks::response_of;
+use case_files::sections::section_of;
 use command_line::{ClerkWords, Endpoint};
 use commands::{CommandError, ExitStatus};
-use errands::remote::{Request, ServerAnswer, Unanswered, Verb, read_answer};
-use errands::{Courier, Errand, Listening, carry_out, tell_reason_there};
+use http_client::remote::{Request, ServerAnswer, Unanswered, Verb, read_answer};
+use http_client::{Courier, Errand, Listening, carry_out, tell_reason_there};
 use std::alloc::Global;
 use std::test::Fail;
 use store::SheetKind;

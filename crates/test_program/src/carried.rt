@@ -5,7 +5,7 @@ use crate::ran::{Wanted, run_lines};
 use crate::telling::tell;
 use crate::texts::{remove_book, text_of};
 use crate::version1::{hundred_lines, with_lines};
-use cases::sections::section_of;
+use case_files::sections::section_of;
 use std::fs;
 use std::test::Fail;
 

@@ -7,7 +7,7 @@
 use crate::ran::{Wanted, do_lines, run_lines, run_text};
 use crate::telling::{hold, tell};
 use crate::texts::{answer, has_text, remove, remove_book, text_of, write_advice};
-use cases::spreading::spread;
+use case_files::spreading::spread;
 use std::fs;
 use std::os::unix::fs::symlink;
 use std::test::Fail;

@@ -11,7 +11,7 @@ use crate::ran::{Ran, Wanted, do_lines, run_lines};
 use crate::telling::{hold, tell};
 use crate::texts::{lay_left, remove, remove_book, text_of};
 use books::{Book, Tables};
-use cases::sections::section_of;
+use case_files::sections::section_of;
 use commands::{Verbosity, play_over};
 use sqlite::{Alter, Connection};
 use std::fs;

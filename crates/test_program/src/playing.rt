@@ -21,8 +21,8 @@
 //! of each `%`.
 use crate::ran::{Wanted, do_lines, run, run_explained, run_lines, run_text};
 use crate::texts::{lay_left, remove_book, text_of};
-use cases::sections::section_of;
-use cases::spreading::spread;
+use case_files::sections::section_of;
+use case_files::spreading::spread;
 use std::fs;
 use std::test::Fail;
 

@@ -1,5 +1,5 @@
 //! Lines of words and scripts run, and what comes of them.
-use running::command;
+use app::command;
 use std::fs;
 use std::test::Fail;
 

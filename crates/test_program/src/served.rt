@@ -6,7 +6,7 @@ use crate::ran::{Wanted, do_lines, run_lines};
 use crate::serving::{Nobody, Told, served, service_at, told_of};
 use crate::telling::{hold, tell};
 use crate::texts::{advice, answer, remove_book, text_of};
-use cases::clerks::response_of;
+use case_files::clerks::response_of;
 use commands::ServedFile;
 use sqlite::{Alter, Connection};
 use std::fs;

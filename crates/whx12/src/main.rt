@@ -1,8 +1,8 @@
 //! The program: one line of words, over a book in a file or as a script.
 #![tactic(auto)]
 
-use gauges::Gauge;
-use running::program;
+use app::program;
+use counted_io::Gauge;
 use std::process::ExitCode;
 
 fn main(rt: HostRuntime) -> ExitCode {

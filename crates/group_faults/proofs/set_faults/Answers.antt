@@ -1,7 +1,7 @@
 use Rattle.std.proofs.Common.{ℕ, ◌+◌, ◌<◌, ◌++◌, ◌∷◌, [], List, length, arith, ap, sym, ◌∙◌, refl, map, drop, take}
 use Rattle.std.specs.Prelude.{bytes_eq, Option}
 use Rattle.std.specs.List.{list_any}
-use Rattle.profile.specs.Structure.{control_of, examined_on, kind_of}
+use Rattle.definitions.specs.Structure.{control_of, examined_on, kind_of}
 use Rattle.group_faults.proofs.Earlier.{at_first, one_more, numbers_more}
 use Rattle.group_faults.proofs.set_faults.Goals as goal
 

@@ -1,8 +1,8 @@
 use Rattle.std.proofs.Common.{◌≡◌, ℕ, ◌++◌, List, map, take, drop}
 use Rattle.std.specs.Prelude.{bytes_eq}
 use Rattle.std.specs.List.{list_any}
-use Rattle.profile.specs.Bytes.{is_one_of}
-use Rattle.profile.specs.Structure.{control_of, envelope_faults, examined_on, kind_of}
+use Rattle.definitions.specs.Bytes.{is_one_of}
+use Rattle.definitions.specs.Structure.{control_of, envelope_faults, examined_on, kind_of}
 use Rattle.group_faults.proofs.set_faults.Given as goal
 
 -- the faults so far and those of the sets that are left are all, where `earlier` are the control

@@ -1,8 +1,8 @@
 //! What a recount tells: the 947.
 ghost use Rattle.std.specs.Prelude.{◌≡◌, true, IfOk, map};
-ghost use Rattle.profile.specs.declared.rules.Rules.TheVariants.{Two};
-ghost use Rattle.profile.specs.declared.sheet_kind.SheetKind.TheVariants.{Recount as RecountSheet};
-ghost use Rattle.profile.specs.Clerk.{is_sheet};
+ghost use Rattle.definitions.specs.Rules.{Today};
+ghost use Rattle.definitions.specs.declared.sheet_kind.SheetKind.TheVariants.{Recount as RecountSheet};
+ghost use Rattle.definitions.specs.Clerk.{is_sheet};
 ghost use Rattle.rules.specs.Documents.{adjusted_from, adjustment_text};
 
 use crate::documents::written::written;
@@ -41,7 +41,7 @@ pub fn adjustment(
 ) -> Result<Vec<u8>, AllocError>
     ensures text { IfOk result
         (λ text. text.items ≡ adjustment_text envelope.now page.now sheet.now) }
-    ensures sheet { is_sheet Two RecountSheet sheet.now ≡ true }
+    ensures sheet { is_sheet Today RecountSheet sheet.now ≡ true }
 {
     let goods = sheet.lines(alloc)?;
     let lines = adjusted(alloc, page, &goods)?;

@@ -1,8 +1,8 @@
 //! What a count tells: the 944.
 ghost use Rattle.std.specs.Prelude.{◌≡◌, ◌++◌, true, IfOk, map};
-ghost use Rattle.profile.specs.Clerk.{is_ascending};
-ghost use Rattle.profile.specs.Events.{pair_before};
-ghost use Rattle.profile.specs.Lists.{in_order};
+ghost use Rattle.definitions.specs.Clerk.{is_ascending};
+ghost use Rattle.definitions.specs.Events.{pair_before};
+ghost use Rattle.definitions.specs.Lists.{in_order};
 ghost use Rattle.rules.specs.Documents.{received_line, receipt_text};
 
 use crate::documents::written::written;

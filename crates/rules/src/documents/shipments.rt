@@ -1,9 +1,9 @@
 //! What a pick tells: the 945.
 ghost use Rattle.std.specs.Prelude.{◌≡◌, ◌≤◌, not, true, IfOk, bytes_eq, filter, length, map};
-ghost use Rattle.profile.specs.declared.rules.Rules.TheVariants.{Two};
-ghost use Rattle.profile.specs.Bytes.{comes_before};
-ghost use Rattle.profile.specs.Clerk.{is_ascending};
-ghost use Rattle.profile.specs.Limits.{most_lines};
+ghost use Rattle.definitions.specs.Rules.{Today};
+ghost use Rattle.definitions.specs.Bytes.{comes_before};
+ghost use Rattle.definitions.specs.Clerk.{is_ascending};
+ghost use Rattle.definitions.specs.Limits.{most_lines};
 ghost use Rattle.stock.specs.Keyed.{IsRank};
 ghost use Rattle.rules.specs.Documents.{picked_lot, shipment_text, shipped_of};
 
@@ -76,7 +76,7 @@ fn shipped_line<'a>(
     line: &'a KnownLine,
     sheet: &'a [Goods],
 ) -> Result<ShippedLine<'a>, AllocError>
-    requires few { length sheet.now ≤ most_lines Two }
+    requires few { length sheet.now ≤ most_lines Today }
     requires rises { is_ascending sheet.now ≡ true }
 
     ensures { IfOk result (λ l. l ≡ shipped_of sheet.now line.now) }
@@ -96,7 +96,7 @@ fn shipped_lines<'a>(
     lines: &'a [KnownLine],
     sheet: &'a [Goods],
 ) -> Result<Vec<ShippedLine<'a>>, AllocError>
-    requires few { length sheet.now ≤ most_lines Two }
+    requires few { length sheet.now ≤ most_lines Today }
     requires rises { is_ascending sheet.now ≡ true }
 
     ensures { IfOk result (λ v. v.items ≡ map (shipped_of sheet.now) lines.now) }

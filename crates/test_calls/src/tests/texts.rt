@@ -1,9 +1,9 @@
 //! Texts that are judged: sets with one fault each, each beginning of an interchange, and the
 //! widest rows of reports.
 use super::calls::worked::{ADVICE, acme, empty, enrols, morning, takes};
-use cases::sets::{ACKNOWLEDGMENTS, ADVICES, LATER_ADVICES, LATER_ORDERS, ORDERS};
-use cases::spreading::spread;
-use profile::Rules;
+use case_files::sets::{ACKNOWLEDGMENTS, ADVICES, LATER_ADVICES, LATER_ORDERS, ORDERS};
+use case_files::spreading::spread;
+use definitions::Rules;
 use reports::{outbox_list, stock_csv, stock_report};
 use segments::{Delims, ElementFault, Segment, SetFault, cut};
 use std::alloc::{AllocError, Global};

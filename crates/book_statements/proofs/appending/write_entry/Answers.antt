@@ -1,6 +1,6 @@
 use Rattle.std.proofs.Common.{rules, ◌≡◌, ap, ◌∙◌}
 use Rattle.std.specs.Prelude.{IsErrAnd}
-use Rattle.profile.specs.Moments.{stamp}
+use Rattle.definitions.specs.Moments.{stamp}
 use Rattle.sqlite.specs.Held.{state}
 use Rattle.store.specs.Fault.{Fault}
 use Rattle.book_statements.proofs.AppendingLemmas.{entry_led_on}

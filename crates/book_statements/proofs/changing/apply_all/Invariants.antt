@@ -1,7 +1,7 @@
 use Rattle.std.proofs.Common.{◌≡◌, drop, flat_map}
 use Rattle.sqlite.specs.Held.{state}
 use Rattle.sqlite.specs.Effect.{Database}
-use Rattle.profile.specs.Header.{Who, who_text}
+use Rattle.definitions.specs.Header.{Who, who_text}
 use Rattle.rules.specs.Tabled.{table_changes, table_changes_of}
 use Rattle.book_statements.specs.Leading.{Leads}
 use Rattle.book_statements.specs.Writing.{WroteSoFar}

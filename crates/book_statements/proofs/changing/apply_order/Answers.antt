@@ -1,7 +1,7 @@
 use Rattle.std.proofs.Common.{rules, ◌≡◌, ap, sym, subst, ◌∙◌, ℕ, List, [], ◌∷◌}
 use Rattle.std.specs.Prelude.{IsErrAnd}
-use Rattle.profile.specs.Changes.{Frees}
-use Rattle.profile.specs.Page.{PageOrder}
+use Rattle.definitions.specs.Changes.{Frees}
+use Rattle.definitions.specs.Page.{PageOrder}
 use Rattle.sqlite.specs.Held.{state}
 use Rattle.store.specs.Fault.{Fault}
 use Rattle.book_statements.specs.Leading.{Leads}

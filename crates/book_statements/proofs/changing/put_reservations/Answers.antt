@@ -1,7 +1,7 @@
 use Rattle.std.proofs.Common.{rules, arith, ◌≡◌, get_or, [], ◌∷◌, subst, sym, ap, map, ◌∙◌}
 use Rattle.std.specs.Prelude.{IsErrAnd}
-use Rattle.profile.specs.Means.{Line}
-use Rattle.profile.specs.Page.{PageOrder}
+use Rattle.definitions.specs.Means.{Line}
+use Rattle.definitions.specs.Page.{PageOrder}
 use Rattle.sqlite.specs.Held.{state}
 use Rattle.store.specs.Fault.{Fault}
 use Rattle.book_statements.specs.Leading.{Leads}

@@ -1,6 +1,6 @@
 use Rattle.std.proofs.Common.{rules, ap, subst, ◌∙◌, ◌≡◌}
 use Rattle.std.specs.Prelude.{IsErrAnd}
-use Rattle.profile.specs.Header.{Who}
+use Rattle.definitions.specs.Header.{Who}
 use Rattle.sqlite.specs.Held.{state}
 use Rattle.store.specs.Fault.{Fault}
 use Rattle.book_statements.specs.Making.{HasBook}

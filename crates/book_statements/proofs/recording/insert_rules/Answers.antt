@@ -1,5 +1,5 @@
 use Rattle.std.proofs.Common.{Ok, subst}
-use Rattle.profile.specs.Rules.{rules_number}
+use Rattle.definitions.specs.Rules.{rules_number}
 use Rattle.sqlite.specs.Held.{state}
 use Rattle.sqlite.specs.State.{Executes}
 use Rattle.book_statements.proofs.Writes.{wrote_as}

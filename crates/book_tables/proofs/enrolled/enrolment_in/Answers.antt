@@ -1,7 +1,7 @@
 use Rattle.std.proofs.Common.{Some, sym, ap, ◌∙◌}
 use Rattle.sqlite.specs.Order.{Row, column}
-use Rattle.profile.specs.Header.{who_of, who_text}
-use Rattle.profile.proofs.ReadingLaws.{who_of-who_text}
+use Rattle.definitions.specs.Header.{who_of, who_text}
+use Rattle.definitions.proofs.ReadingLaws.{who_of-who_text}
 use Rattle.book_tables.proofs.ReadLemmas.{none_some, same_number_value, same_some, same_text_value}
 use Rattle.book_tables.proofs.enrolled.enrolment_in.Goals as goal
 

@@ -1,6 +1,6 @@
 use Rattle.std.proofs.Common.{rules, ◌≡◌, ◌≤◌, [], ◌∷◌, ◌++◌, sym, ap, subst, ◌∙◌, List, length, map, drop, true, Some, arith, ◌+◌}
 use Rattle.sqlite.specs.Order.{Row, column}
-use Rattle.profile.specs.Rows.{LotRow}
+use Rattle.definitions.specs.Rows.{LotRow}
 use Rattle.rules.specs.Keyed.{key_before, rises_by, row_key}
 use Rattle.book_statements.specs.Dated.{date_shown, dates_of}
 use Rattle.book_tables.specs.Showing.{lot_shown}

@@ -1,6 +1,6 @@
 use Rattle.std.proofs.Common.{◌≡◌, List, map, take, drop, true, length}
 use Rattle.std.specs.List.{list_all}
-use Rattle.profile.specs.Rows.{LotRow}
+use Rattle.definitions.specs.Rows.{LotRow}
 use Rattle.rules.specs.Keyed.{key_before, rises_by, row_key}
 use Rattle.rules.specs.Fitting.{is_fitting_row}
 use Rattle.book_statements.specs.Dated.{date_shown, dates_of}

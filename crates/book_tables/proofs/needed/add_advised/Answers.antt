@@ -1,6 +1,6 @@
 use Rattle.std.proofs.Common.{ap}
-use Rattle.profile.specs.Need.{items_of}
-use Rattle.profile.specs.Page.{PageAdvice}
+use Rattle.definitions.specs.Need.{items_of}
+use Rattle.definitions.specs.Page.{PageAdvice}
 use Rattle.book_tables.proofs.Added.{more_added}
 use Rattle.book_tables.proofs.needed.add_advised.Goals as goal
 

@@ -1,5 +1,5 @@
 use Rattle.std.proofs.Common.{◌≡◌, ◌++◌, flat_map, take}
-use Rattle.profile.specs.Need.{items_of}
+use Rattle.definitions.specs.Need.{items_of}
 use Rattle.book_tables.proofs.needed.add_advised.Given as goal
 
 abbrev pub invariant-loop-advice : goal.invariant-loop-advice

@@ -1,5 +1,5 @@
 use Rattle.std.proofs.Common.{◌≡◌, ◌++◌, take}
-use Rattle.profile.specs.Need.{items_of}
+use Rattle.definitions.specs.Need.{items_of}
 use Rattle.book_tables.proofs.needed.add_items.Given as goal
 
 abbrev pub invariant-loop-line : goal.invariant-loop-line

@@ -1,5 +1,5 @@
 use Rattle.std.proofs.Common.{◌∙◌, map, ap}
-use Rattle.profile.specs.Page.{PageLine, PageOrder}
+use Rattle.definitions.specs.Page.{PageLine, PageOrder}
 use Rattle.book_tables.proofs.Added.{more_added}
 use Rattle.book_tables.proofs.needed.add_sought.Goals as goal
 

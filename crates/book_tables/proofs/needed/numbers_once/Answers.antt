@@ -2,7 +2,7 @@ use Rattle.std.proofs.Common.{◌≡◌, ◌∙◌, ◌==◌, ap, List, ℕ, sym
 use Rattle.std.specs.Cmp.{nat_eq_equiv}
 use Rattle.std.proofs.lemmas.List.Filters.{dedup_is}
 use Rattle.std.proofs.lemmas.Map.Keys.{IsStrictlyIncreasing-dedup}
-use Rattle.profile.specs.Need.{is_number_of}
+use Rattle.definitions.specs.Need.{is_number_of}
 use Rattle.book_tables.proofs.OnceKept.{number_any, sorted_once}
 use Rattle.book_tables.proofs.needed.numbers_once.Goals as goal
 

@@ -3,7 +3,7 @@ use Rattle.std.specs.Prelude.{bytes_eq}
 use Rattle.std.specs.Cmp.Lexicographic.{on_texts, texts_ties}
 use Rattle.std.proofs.lemmas.List.Filters.{dedup_is}
 use Rattle.std.proofs.lemmas.List.Kept.{IsStrictlySortedBy-dedup}
-use Rattle.profile.specs.Bytes.{is_one_of}
+use Rattle.definitions.specs.Bytes.{is_one_of}
 use Rattle.book_tables.proofs.OnceKept.{any_mapped, same_text, sorted_once}
 use Rattle.book_tables.proofs.needed.once.Goals as goal
 

@@ -1,6 +1,6 @@
 use Rattle.std.proofs.Common.{◌≡◌, List}
 use Rattle.std.specs.Prelude.{fold}
-use Rattle.profile.specs.Rows.{LotRow}
+use Rattle.definitions.specs.Rows.{LotRow}
 use Rattle.rules.specs.Keyed.{put_row}
 use Rattle.book_tables.proofs.needed.with_rows.Given as goal
 

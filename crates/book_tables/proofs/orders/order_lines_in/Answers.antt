@@ -1,5 +1,5 @@
 use Rattle.std.proofs.Common.{◌≡◌, [], ◌∷◌, ◌++◌, sym, ◌∙◌, rules, ◌≤◌, length, ap, Some, arith}
-use Rattle.profile.specs.declared.rules.Rules.TheVariants.{Two}
+use Rattle.definitions.specs.Rules.{Today}
 use Rattle.book_tables.specs.Showing.{order_line_shown}
 use Rattle.rules.specs.Fitting.{is_fitting_ordered}
 use Rattle.book_tables.proofs.Fits.{has_all, small_ordered}
@@ -9,7 +9,7 @@ use Rattle.book_tables.proofs.orders.order_lines_in.Goals as goal
 pub returns-in_default-clause-shows : goal.returns-in_default-clause-shows
 returns-in_default-clause-shows c rs fit is =
     let at = at_place order_line_shown c.args.rows.now rs c.loop-row.row-index c.row-item.result is c.loop-row-test.true c.row-item.is in
-    let some = c.in_ok-line.ensures at.row (small_ordered at.row (has_all (is_fitting_ordered Two) rs at.row at.there fit)) at.shows in
+    let some = c.in_ok-line.ensures at.row (small_ordered at.row (has_all (is_fitting_ordered Today) rs at.row at.there fit)) at.shows in
     let none = c.in_default.is in
     absurd (cc (some, none))
 
@@ -21,7 +21,7 @@ loop-row-preserved c = (
   one_longer _ _ _ _ c.in_ok-push.ensures.items c.loop-row.invariant.0,
   λ rs fit is.
       let at = at_place order_line_shown c.args.rows.now rs c.loop-row.row-index c.row-item.result is c.loop-row-test.true c.row-item.is in
-      let some = c.in_ok-line.ensures at.row (small_ordered at.row (has_all (is_fitting_ordered Two) rs at.row at.there fit)) at.shows in
+      let some = c.in_ok-line.ensures at.row (small_ordered at.row (has_all (is_fitting_ordered Today) rs at.row at.there fit)) at.shows in
       let found = c.in-Some.is in
       let same : c.in-Some.line ≡ at.row = cc (some, found) in
       c.in_ok-push.ensures.items ∙ (λ i. c.loop-row.invariant.1 rs fit is i ++ same i ∷ []) ∙ sym at.more,

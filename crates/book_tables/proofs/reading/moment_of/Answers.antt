@@ -1,6 +1,6 @@
 use Rattle.std.proofs.Common.{rules, ◌≡◌, ◌≢◌, ◌∙◌, length, bytes_eq, true, false, subst}
-use Rattle.profile.specs.Moments.{Moment, is_moment, stamp}
-use Rattle.profile.specs.Readings.{moment_in}
+use Rattle.definitions.specs.Moments.{Moment, is_moment, stamp}
+use Rattle.definitions.specs.Readings.{moment_in}
 use Rattle.book_tables.proofs.ReadLemmas.{no_moment, some_moment, other_moment, short_moment, last_two}
 use Rattle.book_tables.proofs.reading.moment_of.Goals as goal
 

@@ -5,7 +5,7 @@ use Rattle.std.proofs.lemmas.List.{take_all}
 use Rattle.sqlite.specs.Order.{column}
 use Rattle.sqlite.specs.declared.types.Value.TheVariants.{Blob}
 use Rattle.store.specs.declared.rows.OutRow.{OutRow as OutRowOf}
-use Rattle.profile.specs.Rows.{OutRow}
+use Rattle.definitions.specs.Rows.{OutRow}
 use Rattle.book_tables.specs.Showing.{out_shown, HasKindAndState, IsOut}
 use Rattle.book_tables.proofs.Places.{at_place, all_more, taken_more, whole_taken, kept_more, passed_more, not_none, none_at_all}
 use Rattle.book_tables.proofs.ReadLemmas.{if_there}

@@ -2,7 +2,7 @@ use Rattle.std.proofs.Common.{◌≡◌, List, map, take, filter, length}
 use Rattle.std.specs.Prelude.{nat_lt}
 use Rattle.std.specs.List.{AllByRecursion}
 use Rattle.sqlite_rules.specs.Lists.{Has}
-use Rattle.profile.specs.Rows.{OutRow}
+use Rattle.definitions.specs.Rows.{OutRow}
 use Rattle.book_tables.specs.Showing.{out_shown, IsOut, IsSent}
 use Rattle.book_tables.proofs.sent.out_rows_in.Given as goal
 

@@ -1,12 +1,11 @@
 use Rattle.std.proofs.Common.{rules, ◌≡◌, ◌++◌, ◌∷◌, [], Bool, true, false, Some, refl, sym, subst, ap, ◌∙◌}
 use Rattle.std.specs.Cmp.Derive.{both_true}
-use Rattle.profile.specs.declared.rules.Rules.{Rules}
-use Rattle.profile.specs.declared.rules.Rules.TheVariants.{Two}
-use Rattle.profile.specs.Rules.{may_follow}
-use Rattle.profile.specs.Moments.{is_moment}
-use Rattle.profile.specs.Accepted.{IsLegal, after, is_command}
-use Rattle.profile.specs.Tables.{number_of}
-use Rattle.profile.proofs.RisingLaws.{legal-rises}
+use Rattle.definitions.specs.declared.rules.Rules.{Rules}
+use Rattle.definitions.specs.Rules.{Today, may_follow}
+use Rattle.definitions.specs.Moments.{is_moment}
+use Rattle.definitions.specs.Accepted.{IsLegal, after, is_command}
+use Rattle.definitions.specs.Tables.{number_of}
+use Rattle.definitions.proofs.RisingLaws.{legal-rises}
 use Rattle.rules.specs.Asked.{asked}
 use Rattle.rules.specs.Given.{RuledCommand, given_by, ruled_by}
 use Rattle.rules.proofs.Follows.{legal_follow}
@@ -27,7 +26,7 @@ returns-then-not-may_follow-clause-next g c = λ clean L u e back is legal last 
     let follow = legal_follow _ W _ L e back legal refl in
     let given : c.in-Some.given ≡ ruled_by e = one_some c.in_ok-given.field-0 c.in-Some.given (ruled_by e) c.in-Some.is (c.in_ok-given.ensures (number_of L e) e is follow.good) in
     let own_rules : c.rules-rules.result ≡ e.rules = c.rules-rules.ensures ∙ ap (λ (p : RuledCommand). p.0) given in
-    let rises = rises_at _ L e back (legal-rises Two W _ legal) in
+    let rises = rises_at _ L e back (legal-rises Today W _ legal) in
     let may : may_follow c.args.last c.rules-rules.result ≡ true = (λ i. may_follow (last i) (own_rules i)) ∙ rises in
     absurd (let both : ◌≡◌ {A = Bool} true false = sym may ∙ sym c.may_follow.ensures ∙ c.if-not-may_follow.true in cc)
 

@@ -1,7 +1,7 @@
 use Rattle.std.proofs.Common.{◌≡◌, List, Ok, length}
 use Rattle.sqlite.specs.Held.{state}
 use Rattle.sqlite.specs.State.{HasCleanDisk}
-use Rattle.profile.specs.Register.{Entry}
+use Rattle.definitions.specs.Register.{Entry}
 use Rattle.book_statements.specs.Asking.{Went}
 use Rattle.book_statements.specs.Exits.{StandsWhileOpen}
 use Rattle.books.specs.Opened.{standing_of}

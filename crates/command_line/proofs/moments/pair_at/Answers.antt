@@ -1,6 +1,6 @@
 use Rattle.std.proofs.Common.{◌≡◌, ◌+◌, ◌-◌, ◌<◌, ◌≤◌, take, drop, length, min, ◌∙◌, ap, arith}
 use Rattle.std.proofs.lemmas.List.{length-take}
-use Rattle.profile.specs.Bytes.{value}
+use Rattle.definitions.specs.Bytes.{value}
 use Rattle.segments.proofs.DigitsLemmas.{few_digits}
 use Rattle.command_line.specs.Written.{pair_at}
 use Rattle.command_line.proofs.moments.pair_at.Goals as goal

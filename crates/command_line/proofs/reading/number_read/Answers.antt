@@ -1,8 +1,8 @@
 use Rattle.std.proofs.Common.{◌≡◌, refl, ap, Bor, List, ℕ, codes}
 use Rattle.clap.specs.Walk.{Row, Text}
 use Rattle.command_line.specs.Asked as meant
-use Rattle.profile.specs.declared.sheet_kind.SheetKind.{SheetKind}
-use Rattle.profile.specs.declared.sheet_kind.SheetKind.TheVariants.{Count, Pick, Recount}
+use Rattle.definitions.specs.declared.sheet_kind.SheetKind.{SheetKind}
+use Rattle.definitions.specs.declared.sheet_kind.SheetKind.TheVariants.{Count, Pick, Recount}
 use Rattle.command_line.proofs.reading.number_read.Goals as goal
 use Rattle.command_line.proofs.reading.number_read.Goals.{in-Recount, in_default+in_ok-given-in_default}
 

@@ -1,6 +1,6 @@
 use Rattle.std.proofs.Common.{◌++◌, ◌+◌, List, drop, option_map, sym, ap, ◌∙◌}
 use Rattle.toml.specs.View.{items_view}
-use Rattle.profile.specs.Header.{Who}
+use Rattle.definitions.specs.Header.{Who}
 use Rattle.command_line.specs.Rosters.{partners_in}
 use Rattle.command_line.proofs.RosterLaws.{more_at, none_at}
 use Rattle.command_line.proofs.rosters.partners.Goals as goal

@@ -1,4 +1,4 @@
 use Rattle.command_line.proofs.subcommands.enrol.Goals as goal
 
 pub returns : goal.returns
-returns c = c.with_at.ensures _ c.of_depositor-command.ensures
+returns c = c.with_try.ensures _ c.of_depositor-command.ensures

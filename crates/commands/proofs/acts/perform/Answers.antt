@@ -1,5 +1,5 @@
 use Rattle.std.proofs.Common.{List, ℕ, subst}
-use Rattle.profile.specs.Register.{Command, Interchange as Received}
+use Rattle.definitions.specs.Register.{Command, Interchange as Received}
 use Rattle.commands.specs.Acting.{IsHandedIn, IsSaid}
 use Rattle.commands.proofs.acts.perform.Goals as goal
 

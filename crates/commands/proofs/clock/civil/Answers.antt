@@ -1,7 +1,7 @@
 use Rattle.std.proofs.Common.{arith, ◌<ℤ◌, ◌∙◌, pos}
 use borrow.Author.Rules.{sfits_of}
 use Rattle.jiff.proofs.SpanFacts.{signed_arith}
-use Rattle.profile.specs.Moments.{Moment}
+use Rattle.definitions.specs.Moments.{Moment}
 use Rattle.commands.proofs.ClockLaws.{none_before, minute_made, year_is, part_is}
 use Rattle.commands.proofs.clock.civil.Goals as goal
 

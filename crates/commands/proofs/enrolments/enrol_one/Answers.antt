@@ -1,6 +1,6 @@
 use Rattle.std.proofs.Common.{◌≡◌, true, rules}
-use Rattle.profile.specs.Header.{is_partner}
-use Rattle.profile.specs.Register.{Enrol}
+use Rattle.definitions.specs.Header.{is_partner}
+use Rattle.definitions.specs.Register.{Enrol}
 use Rattle.store.specs.Runs.{told}
 use Rattle.commands.specs.Enrolling.{line_of}
 use Rattle.commands.proofs.ActLaws.{untold}

@@ -1,7 +1,7 @@
 use Rattle.std.proofs.Common.{arith, rules, subst, filter, List}
 use Rattle.std.specs.List.{AllByRecursion}
 use Rattle.std.proofs.lemmas.List.{take_all}
-use Rattle.profile.specs.Rows.{OutRow}
+use Rattle.definitions.specs.Rows.{OutRow}
 use Rattle.commands.specs.HandingOn.{IsRowLeft, is_document}
 use Rattle.commands.proofs.HandingLaws.{with_it, without_it}
 use Rattle.commands.proofs.handing_on.leave_rows.Goals as goal

@@ -1,7 +1,7 @@
 use Rattle.std.proofs.Common.{◌≡◌, ◌∙◌, ap, sym, Option, Some, None}
 use Rattle.std.specs.Prelude.{find, option_copied}
 use Rattle.std.specs.Option.{option_or}
-use Rattle.profile.specs.Means.{Line}
+use Rattle.definitions.specs.Means.{Line}
 use Rattle.commands.specs.Reasons.{is_unkept, only_doubtful}
 use Rattle.commands.proofs.reasons.unnamed.Goals as goal
 

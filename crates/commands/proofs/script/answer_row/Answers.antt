@@ -13,7 +13,7 @@ use Rattle.commands.proofs.script.answer_row.Goals.{then-verbosity+then-eq, else
 pub returns-in_err-status-clause-stopped : goal.returns-in_err-status-clause-stopped
 returns-in_err-status-clause-stopped g c =
     handed_on c.from_residual-in_err-status.result _ _ c.from_residual-in_err-status.ensures
-    (λ stop is. inr (subst (λ (s : CommandError). IsRowAnswered g.K.Keeper.standing c.args.book.now c.answer.new.book c.args.row.now (g.W.Write.contents c.args.out.now) (g.W.Write.contents c.answer.new.out) (Err s)) (sym is)
+    (λ stop is. inr (subst (λ (s : CommandError). IsRowAnswered (g.R.FileSystem.reads c.args.rt.now) g.K.Keeper.standing c.args.book.now c.answer.new.book c.args.row.now (g.W.Write.contents c.args.out.now) (g.W.Write.contents c.answer.new.out) (Err s)) (sym is)
     (record {
       asked = c.in_ok-asked.asked;
       read = search rules;

@@ -9,13 +9,13 @@ use Rattle.commands.proofs.script.play_from.Goals.{then-not-is_empty+in-Ok, else
 
 pub returns-in-Err-clause-stopped : goal.returns-in-Err-clause-stopped
 returns-in-Err-clause-stopped g c =
-    stopped_at g.K.Keeper.standing g.W.Write.contents _ _ c.args.text c.loop-left.left c.first_row.result.1 c.first_row.result.0.now _ _ _
+    stopped_at (g.R.FileSystem.reads c.args.rt.now) g.K.Keeper.standing g.W.Write.contents _ _ c.args.text c.loop-left.left c.first_row.result.1 c.first_row.result.0.now _ _ _
     (ap rows_left c.in-Some.is ∙ c.first_row.ensures) (asks_for _ c.if-not-is_empty.ensures) c.in-Err.ensures.stopped c.loop-left.invariant.so_far
 
 pub loop-left-preserved : goal.loop-left-preserved
 loop-left-preserved g c =
     let i = c.loop-left.invariant in
-    let done = IsRowDone g.K.Keeper.standing g.W.Write.contents in
+    let done = IsRowDone (g.R.FileSystem.reads c.args.rt.now) g.K.Keeper.standing g.W.Write.contents in
     let says = IsRowSaid (g.R.FileSystem.reads c.args.rt.now) g.K.Keeper.standing in
     let from : g.row.K.Denot × (g.row.W.Denot × ExitStatus) = (c.args.book.now, (c.args.out.now, Done)) in
     let first : g.row.K.Denot × Option (List ℕ) = (c.args.book.now, g.E.Write.contents c.args.err.now) in

@@ -9,7 +9,7 @@ use Rattle.commands.proofs.script.play_from.Given as goal
 abbrev pub invariant-loop-left : goal.invariant-loop-left
 invariant-loop-left g l = record {
   goes : GoesOn (g.K.Keeper.standing l.fn.book) (g.K.Keeper.standing l.book);
-  so_far : SoFar (IsRowDone g.K.Keeper.standing g.W.Write.contents) (l.fn.book, (l.fn.out, Done)) l.fn.text l.left (l.book, (l.out, l.status));
+  so_far : SoFar (IsRowDone (g.R.FileSystem.reads l.rt) g.K.Keeper.standing g.W.Write.contents) (l.fn.book, (l.fn.out, Done)) l.fn.text l.left (l.book, (l.out, l.status));
   said : l.verbosity.explains ≡ false
       → SoFar (IsRowSaid (g.R.FileSystem.reads l.rt) g.K.Keeper.standing) (l.fn.book, g.E.Write.contents l.fn.err) l.fn.text l.left (l.book, g.E.Write.contents l.err);
 }

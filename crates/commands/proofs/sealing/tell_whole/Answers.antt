@@ -1,5 +1,5 @@
 use Rattle.std.proofs.Common.{ap, rules, IfErr, ◌∙◌, List, ℕ, None, Option}
-use Rattle.profile.specs.Moments.{Moment}
+use Rattle.definitions.specs.Moments.{Moment}
 use Rattle.seals.specs.Noted.{noted, noted_line}
 use Rattle.commands.specs.Shown.{Shown, shown_seal}
 use Rattle.commands.specs.Stops.{IsDeviceStop}

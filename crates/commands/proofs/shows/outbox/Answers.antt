@@ -1,6 +1,6 @@
 use Rattle.std.proofs.Common.{ap, refl, rules, IfErr, None, Some, ◌∙◌}
-use Rattle.profile.specs.Reports.{outbox_list}
-use Rattle.profile.specs.Rows.{outbox_of}
+use Rattle.definitions.specs.Reports.{outbox_list}
+use Rattle.definitions.specs.Rows.{outbox_of}
 use Rattle.commands.specs.Shown.{shown_list}
 use Rattle.commands.specs.Stops.{IsDeviceStop}
 use Rattle.commands.proofs.ShownLaws.{given_none, given_some, nothing_said, stranger_said, unshown_none, unshown_text}

@@ -1,5 +1,5 @@
 use Rattle.std.proofs.Common.{ap, refl, rules, IfErr, None, Some, ◌∙◌}
-use Rattle.profile.specs.Rows.{stock_of}
+use Rattle.definitions.specs.Rows.{stock_of}
 use Rattle.reports.specs.Exports.{stock_text}
 use Rattle.commands.specs.Shown.{shown_stock}
 use Rattle.commands.specs.Stops.{IsDeviceStop}

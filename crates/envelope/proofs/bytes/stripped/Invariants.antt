@@ -1,5 +1,5 @@
 use Rattle.std.proofs.Common.{◌≡◌, ◌≤◌, take, length}
-use Rattle.profile.specs.Bytes as bytes
+use Rattle.definitions.specs.Bytes as bytes
 use Rattle.envelope.proofs.bytes.stripped.Given as goal
 
 -- what was left out at the end means nothing

@@ -1,5 +1,5 @@
 use Rattle.std.proofs.Common.{◌∙◌, sym}
-use Rattle.profile.specs.Elements.{is_well_formed}
+use Rattle.definitions.specs.Elements.{is_well_formed}
 use Rattle.envelope.proofs.Bared.{all_bare}
 use Rattle.envelope.proofs.content.are_well_formed.Goals as goal
 

@@ -1,6 +1,6 @@
 use Rattle.std.proofs.Common.{◌∙◌, sym}
-use Rattle.profile.specs.Cut.{id_of}
-use Rattle.profile.specs.Halt.{is_segment_id}
+use Rattle.definitions.specs.Cut.{id_of}
+use Rattle.definitions.specs.Halt.{is_segment_id}
 use Rattle.envelope.proofs.Bared.{all_bare}
 use Rattle.envelope.proofs.content.have_ids.Goals as goal
 

@@ -1,5 +1,5 @@
 use Rattle.std.proofs.Common.{sym, ◌∙◌, ap}
-use Rattle.profile.specs.Cut.{Uncut}
+use Rattle.definitions.specs.Cut.{Uncut}
 use Rattle.envelope.proofs.Pushed.{pushed, all_made}
 use Rattle.envelope.proofs.cutting.pieces.Goals as goal
 

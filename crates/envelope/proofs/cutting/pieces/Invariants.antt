@@ -1,5 +1,5 @@
 use Rattle.std.proofs.Common.{◌≡◌, ◌++◌}
-use Rattle.profile.specs.Cut as meaning
+use Rattle.definitions.specs.Cut as meaning
 use Rattle.envelope.proofs.cutting.pieces.Given as goal
 
 -- the segments so far and those that are left are all, and the rest stays

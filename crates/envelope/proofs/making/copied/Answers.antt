@@ -1,6 +1,6 @@
 use Rattle.std.proofs.Common.{List, ◌∷◌, ◌∙◌, refl, ap}
 use Rattle.std.proofs.lemmas.List.{take_all, take_more}
-use Rattle.profile.specs.Cut.{Piece}
+use Rattle.definitions.specs.Cut.{Piece}
 use Rattle.envelope.proofs.making.copied.Goals as goal
 
 pub loop-segment-preserved : goal.loop-segment-preserved

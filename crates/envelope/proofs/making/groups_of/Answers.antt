@@ -1,7 +1,7 @@
 use Rattle.std.proofs.Common.{◌≡◌, List, [], ◌∷◌, map, length, refl, sym, ◌∙◌, arith}
-use Rattle.profile.specs.Bytes.{Delims}
-use Rattle.profile.specs.Cut.{Piece, segments_of}
-use Rattle.profile.specs.Structure.{groups_of}
+use Rattle.definitions.specs.Bytes.{Delims}
+use Rattle.definitions.specs.Cut.{Piece, segments_of}
+use Rattle.definitions.specs.Structure.{groups_of}
 use Rattle.envelope.specs.Parts.{group_under}
 use Rattle.envelope.proofs.Framing.{take_of}
 use Rattle.envelope.proofs.making.groups_of.Goals as goal

@@ -1,5 +1,5 @@
 use Rattle.std.proofs.Common.{List, map, sym, ◌∙◌, ap}
-use Rattle.profile.specs.Structure.{Group}
+use Rattle.definitions.specs.Structure.{Group}
 use Rattle.envelope.specs.Parts.{GroupsOf, group_under}
 use Rattle.envelope.proofs.Holding.{groups_again}
 use Rattle.envelope.proofs.making.interchange_of.Goals as goal

@@ -1,7 +1,7 @@
 use Rattle.std.proofs.Common.{◌++◌, List, map, ap, ◌∙◌, arith}
 use Rattle.std.specs.Prelude.{codes}
-use Rattle.profile.specs.Lists.{parted}
-use Rattle.profile.specs.Structure.{group_of}
+use Rattle.definitions.specs.Lists.{parted}
+use Rattle.definitions.specs.Structure.{group_of}
 use Rattle.envelope.proofs.Holding.{made_groups}
 use Rattle.envelope.proofs.Pushed.{pushed, all_made, run_made, run_of}
 use Rattle.envelope.specs.Parts.{GroupOf, group_under, bare, marked}

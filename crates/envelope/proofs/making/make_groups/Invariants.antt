@@ -1,8 +1,8 @@
 use Rattle.std.proofs.Common.{◌≡◌, ◌++◌, ◌≤◌, ◌-◌, map, length, drop}
 use Rattle.std.specs.Prelude.{codes}
-use Rattle.profile.specs.Lists.{parted}
-use Rattle.profile.specs.Cut.{has_id, segments_of}
-use Rattle.profile.specs.Structure.{group_of}
+use Rattle.definitions.specs.Lists.{parted}
+use Rattle.definitions.specs.Cut.{has_id, segments_of}
+use Rattle.definitions.specs.Structure.{group_of}
 use Rattle.envelope.specs.Parts.{group_under, bare, marked}
 use Rattle.envelope.proofs.making.make_groups.Given as goal
 

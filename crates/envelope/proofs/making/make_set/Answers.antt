@@ -1,5 +1,5 @@
 use Rattle.std.proofs.Common.{List, ◌∷◌, ◌∙◌, ap}
-use Rattle.profile.specs.Cut.{Piece}
+use Rattle.definitions.specs.Cut.{Piece}
 use Rattle.envelope.specs.Parts.{set_under}
 use Rattle.envelope.proofs.Framing.{kept}
 use Rattle.envelope.proofs.making.make_set.Goals as goal

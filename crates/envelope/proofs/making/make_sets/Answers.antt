@@ -1,8 +1,8 @@
 use Rattle.std.proofs.Common.{◌++◌, List, map, ap, ◌∙◌, arith}
 use Rattle.std.specs.Prelude.{codes}
-use Rattle.profile.specs.Lists.{parted}
-use Rattle.profile.specs.Cut.{Piece, has_id}
-use Rattle.profile.specs.Structure.{set_of}
+use Rattle.definitions.specs.Lists.{parted}
+use Rattle.definitions.specs.Cut.{Piece, has_id}
+use Rattle.definitions.specs.Structure.{set_of}
 use Rattle.envelope.proofs.Holding.{made_sets}
 use Rattle.envelope.proofs.Pushed.{pushed, all_made, run_made, run_of}
 use Rattle.envelope.specs.Parts.{SetOf, set_under, bare, marked}

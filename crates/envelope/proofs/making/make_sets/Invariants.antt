@@ -1,8 +1,8 @@
 use Rattle.std.proofs.Common.{◌≡◌, ◌++◌, ◌≤◌, ◌-◌, map, length, drop}
 use Rattle.std.specs.Prelude.{codes}
-use Rattle.profile.specs.Lists.{parted}
-use Rattle.profile.specs.Cut.{has_id, segments_of}
-use Rattle.profile.specs.Structure.{set_of}
+use Rattle.definitions.specs.Lists.{parted}
+use Rattle.definitions.specs.Cut.{has_id, segments_of}
+use Rattle.definitions.specs.Structure.{set_of}
 use Rattle.envelope.specs.Parts.{set_under, bare, marked}
 use Rattle.envelope.proofs.making.make_sets.Given as goal
 

@@ -2,7 +2,7 @@
 use Rattle.std.proofs.Common.{ℕ, Bool, List, refl, sym, ◌∙◌}
 use Rattle.std.specs.Prelude.{codes, bytes_eq}
 use Rattle.std.specs.List.{list_all}
-use Rattle.profile.specs.Bytes.{is_space}
+use Rattle.definitions.specs.Bytes.{is_space}
 use Rattle.envelope.proofs.NoteLemmas.{told}
 use Rattle.envelope.proofs.notes.header_note.Goals as goal
 

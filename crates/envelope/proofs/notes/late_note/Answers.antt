@@ -1,8 +1,8 @@
 -- Each note by the conditions before it.
 use Rattle.std.proofs.Common.{◌++◌, [], ◌∷◌, ℕ, Bool, List, refl}
 use Rattle.std.specs.Prelude.{codes, bytes_eq}
-use Rattle.profile.specs.Bytes.{is_one_of}
-use Rattle.profile.specs.Moments.{is_date, is_clock}
+use Rattle.definitions.specs.Bytes.{is_one_of}
+use Rattle.definitions.specs.Moments.{is_date, is_clock}
 use Rattle.envelope.proofs.NoteLemmas.{told}
 use Rattle.envelope.proofs.notes.late_note.Goals as goal
 

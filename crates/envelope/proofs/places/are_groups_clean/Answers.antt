@@ -1,6 +1,6 @@
 use Rattle.std.proofs.Common.{[], ◌+◌, ◌-◌, take, drop, get_or, sym, ◌∙◌}
-use Rattle.profile.specs.Cut.{Piece}
-use Rattle.profile.specs.Structure.{is_group_clean}
+use Rattle.definitions.specs.Cut.{Piece}
+use Rattle.definitions.specs.Structure.{is_group_clean}
 use Rattle.envelope.proofs.Bared.{clean_more, clean_none}
 use Rattle.envelope.proofs.places.are_groups_clean.Goals as goal
 

@@ -1,9 +1,9 @@
 use Rattle.std.proofs.Common.{◌≡◌, ◌≤◌, ◌-◌, length, drop}
 use Rattle.std.specs.Prelude.{codes}
 use Rattle.std.specs.List.{list_all}
-use Rattle.profile.specs.Lists.{parted}
-use Rattle.profile.specs.Cut.{has_id, segments_of}
-use Rattle.profile.specs.Structure.{is_group_clean}
+use Rattle.definitions.specs.Lists.{parted}
+use Rattle.definitions.specs.Cut.{has_id, segments_of}
+use Rattle.definitions.specs.Structure.{is_group_clean}
 use Rattle.envelope.specs.Parts.{bare, marked}
 use Rattle.envelope.proofs.places.are_groups_clean.Given as goal
 

@@ -1,9 +1,9 @@
 use Rattle.std.proofs.Common.{refl, sym, ◌∙◌, ap, true, false, ◌-◌, length, drop, arith, ℕ, length-drop}
 use Rattle.std.specs.List.{list_all}
 use Rattle.std.proofs.lemmas.List.{take_all}
-use Rattle.profile.specs.declared.widths.TheConstants.{ISA_BYTES}
-use Rattle.profile.specs.Bytes.{is_digit}
-use Rattle.profile.specs.Header.{is_legible}
+use Rattle.definitions.specs.declared.widths.TheConstants.{ISA_BYTES}
+use Rattle.definitions.specs.Bytes.{is_digit}
+use Rattle.definitions.specs.Header.{is_legible}
 use Rattle.envelope.proofs.Legibility.{filled}
 use Rattle.envelope.proofs.reading.is_filled.Goals as goal
 

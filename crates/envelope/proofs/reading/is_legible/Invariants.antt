@@ -1,5 +1,5 @@
 use Rattle.std.proofs.Common.{◌≡◌, drop, true}
-use Rattle.profile.specs.Header as meant
+use Rattle.definitions.specs.Header as meant
 use Rattle.envelope.proofs.reading.is_legible.Given as goal
 
 -- what is left decides

@@ -1,7 +1,7 @@
 use Rattle.std.proofs.Common.{◌∙◌, sym, ap}
 use Rattle.std.specs.Prelude.{codes, filter}
 use Rattle.std.specs.List.{list_all}
-use Rattle.profile.specs.Elements.{is_well_formed}
+use Rattle.definitions.specs.Elements.{is_well_formed}
 use Rattle.envelope.specs.Parts.{marked}
 use Rattle.envelope.proofs.Bared.{all_bare, filter_bare}
 use Rattle.envelope.proofs.trailer.are_trailers_well_formed.Goals as goal

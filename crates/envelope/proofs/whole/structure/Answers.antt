@@ -1,6 +1,6 @@
 use Rattle.std.proofs.Common.{sym, ◌∙◌, ap, true, false}
-use Rattle.profile.specs.Cut.{segments_of}
-use Rattle.profile.specs.Header.{delims_of, isa}
+use Rattle.definitions.specs.Cut.{segments_of}
+use Rattle.definitions.specs.Header.{delims_of, isa}
 use Rattle.envelope.specs.Conditions.{are_held_invalid}
 use Rattle.envelope.specs.Parts.{GroupsOf}
 use Rattle.envelope.proofs.NoteLemmas.{is_early, has_bad_segments, by_groups, held_invalid, parts_are}

@@ -1,6 +1,6 @@
 use Rattle.std.proofs.Common.{◌≡◌, subst, string_bytes}
 use Rattle.std.proofs.lemmas.List.{take_all}
-use Rattle.profile.specs.declared.refusals.Refusal.TheVariants.{Unreadable}
+use Rattle.definitions.specs.declared.refusals.Refusal.TheVariants.{Unreadable}
 use Rattle.folders.specs.Naming.{AreUnreadable, IsSetAside}
 use Rattle.folders.specs.Folders.{WasRefused, became_of}
 use Rattle.folders.specs.declared.folder.Taken.{Taken}

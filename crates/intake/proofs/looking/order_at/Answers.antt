@@ -1,5 +1,5 @@
 use Rattle.std.proofs.Common.{◌∙◌, ap}
-use Rattle.profile.specs.Response.{refused_response}
+use Rattle.definitions.specs.Response.{refused_response}
 use Rattle.intake.proofs.Found.{picked, unheld}
 use Rattle.intake.proofs.looking.order_at.Goals as goal
 

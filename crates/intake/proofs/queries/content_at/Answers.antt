@@ -1,7 +1,7 @@
 use Rattle.std.proofs.Common.{◌≡◌, ◌∙◌, ap, Some, List, ℕ}
-use Rattle.profile.specs.Header.{who_of}
-use Rattle.profile.specs.Response.{content_response, found_for}
-use Rattle.profile.specs.Rows.{outbox_of}
+use Rattle.definitions.specs.Header.{who_of}
+use Rattle.definitions.specs.Response.{content_response, found_for}
+use Rattle.definitions.specs.Rows.{outbox_of}
 use Rattle.intake.specs.Answers.{told_text}
 use Rattle.intake.proofs.Found.{text_found}
 use Rattle.intake.proofs.queries.content_at.Goals as goal

@@ -1,5 +1,5 @@
 use Rattle.std.proofs.Common.{◌∙◌, ap}
-use Rattle.profile.specs.Response.{with_body, plain_type}
+use Rattle.definitions.specs.Response.{with_body, plain_type}
 use Rattle.intake.proofs.Replied.{ticket_line}
 use Rattle.intake.proofs.replies.ticket_used.Goals as goal
 

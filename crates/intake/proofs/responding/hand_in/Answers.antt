@@ -1,5 +1,5 @@
 use Rattle.std.proofs.Common.{refl}
-use Rattle.profile.specs.Response.{reply_response}
+use Rattle.definitions.specs.Response.{reply_response}
 use Rattle.intake.proofs.Answered.{done, undone}
 use Rattle.intake.proofs.responding.hand_in.Goals as goal
 

@@ -1,5 +1,5 @@
 use Rattle.std.proofs.Common.{◌≡◌, ◌∙◌, ap, subst}
-use Rattle.profile.specs.Response.{Method, Route}
+use Rattle.definitions.specs.Response.{Method, Route}
 use Rattle.intake.specs.Answers.{seen}
 use Rattle.intake.specs.Asking.{IsShutResponse}
 use Rattle.intake.specs.Fields.{seen_method, method_of}

@@ -1,5 +1,5 @@
 use Rattle.std.proofs.Common.{subst, ◌≡◌, IfOk}
-use Rattle.profile.specs.Response.{Route}
+use Rattle.definitions.specs.Response.{Route}
 use Rattle.intake.specs.Routes.{seen_route}
 use Rattle.intake.proofs.Paths.{route_of_text, no_route}
 use Rattle.intake.proofs.routes.find_route.Goals as goal

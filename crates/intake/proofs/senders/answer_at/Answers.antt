@@ -31,4 +31,4 @@ returns-clause-sender g c =
     let m = seen_method c.args.method in
     let to = seen_target c.args.target.now in
     let q = may_be_sent _ m to c.args.body.now _ (c.sender_of-sender.ensures c.args.body.now refl) (sym c.may_send.ensures ∙ c.if-not-may_send.false) in
-    sent_sender m to _ _ q (c.sender_of-sender.ensures c.args.body.now refl)
+    sent_sender m to _ _ q (c.told_sender.ensures c.args.body.now (c.sender_of-sender.ensures c.args.body.now refl))

@@ -1,10 +1,10 @@
 use Rattle.std.proofs.Common.{◌∙◌, sym, ap}
-use Rattle.profile.specs.Accepted.{depositor_of}
-use Rattle.intake.proofs.Sent.{unsent_at, sent_at}
+use Rattle.definitions.specs.Accepted.{depositor_of}
+use Rattle.intake.proofs.Sent.{comes_without, comes_with}
 use Rattle.intake.proofs.senders.sender_of.Goals as goal
 
-pub returns-then-not-hands_in : goal.returns-then-not-hands_in
-returns-then-not-hands_in c = λ body is. unsent_at _ _ _ (sym c.hands_in.ensures ∙ c.if-not-hands_in.true)
+pub returns-then-not-has_interchange : goal.returns-then-not-has_interchange
+returns-then-not-has_interchange c = λ body is. comes_without _ _ _ (sym c.has_interchange.ensures ∙ c.if-not-has_interchange.true)
 
 pub returns : goal.returns
-returns c = λ body is. sent_at _ _ _ _ (sym c.hands_in.ensures ∙ c.if-not-hands_in.false) (c.named_in.ensures ∙ ap depositor_of is)
+returns c = λ body is. comes_with _ _ _ _ (sym c.has_interchange.ensures ∙ c.if-not-has_interchange.false) (c.named_in.ensures ∙ ap depositor_of is)

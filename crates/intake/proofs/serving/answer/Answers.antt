@@ -1,12 +1,12 @@
 use Rattle.std.proofs.Common.{◌≡◌, true, false, sym, ap, ◌∙◌, subst, List, ℕ, codes}
 use Rattle.intake.specs.Answers.{seen}
-use Rattle.fields.specs.Fields.{IsValues, values}
+use Rattle.head_fields.specs.Fields.{IsValues, values}
 use Rattle.intake.specs.Fields.{head_of, seen_method}
 use Rattle.intake.specs.Admitting.{asker_at}
 use Rattle.intake.specs.Reaching.{may_reach}
-use Rattle.doors.specs.Askers.{asker_of}
+use Rattle.request_guard.specs.Askers.{asker_of}
 use Rattle.intake.specs.Targets.{has_body, seen_target, target_of}
-use Rattle.gauges.proofs.Sends.{tail_is}
+use Rattle.counted_io.proofs.Sends.{tail_is}
 use Rattle.intake.proofs.Answering.{foreign, encoded, refused, cut_off, wanting, queried, handed, at_head, from_head}
 use Rattle.intake.proofs.serving.answer.Goals as goal
 

@@ -1,7 +1,7 @@
 use Rattle.std.proofs.Common.{◌≡◌, ◌∙◌, ap, sym, true, false, option_map}
 use Rattle.intake.specs.Answers.{number, seen}
 use Rattle.intake.specs.Health.{leads_to_health}
-use Rattle.profile.specs.Response.{bare}
+use Rattle.definitions.specs.Response.{bare}
 use Rattle.intake.proofs.Answering.{turned_away, health_told, let_in, unbarred, why_barred}
 use Rattle.intake.proofs.serving.answer_head.Goals as goal
 

@@ -2,8 +2,8 @@ use Rattle.std.proofs.Common.{arith, ◌≤◌, ◌∙◌, ap, length, take}
 use Rattle.std.proofs.lemmas.Grind.{common_steps}
 use Rattle.std.proofs.lemmas.Result.{IfOk-weaker}
 use Rattle.intake.specs.Answers.{seen}
-use Rattle.fields.specs.Fields.{most_head, most_fields}
-use Rattle.gauges.proofs.Sends.{on_err}
+use Rattle.head_fields.specs.Fields.{most_head, most_fields}
+use Rattle.counted_io.proofs.Sends.{on_err}
 use Rattle.intake.proofs.Answering.{whole_answer, headless_answer, line_read}
 use Rattle.intake.proofs.serving.receive.Goals as goal
 

@@ -1,5 +1,5 @@
 use Rattle.std.proofs.Common.{rules, IsTrue}
-use Rattle.profile.specs.Header.{is_partner}
+use Rattle.definitions.specs.Header.{is_partner}
 use Rattle.intake.proofs.slips.slip_of.Goals as goal
 
 pub invariant_of-result : goal.invariant_of-result

@@ -1,5 +1,5 @@
 use Rattle.std.proofs.Common.{sym}
-use Rattle.gauges.proofs.Sends.{joined_next}
+use Rattle.counted_io.proofs.Sends.{joined_next}
 use Rattle.intake.proofs.texts.join.Goals as goal
 
 pub loop-piece-preserved : goal.loop-piece-preserved

@@ -1,5 +1,5 @@
 use Rattle.std.proofs.Common.{◌≡◌, take}
-use Rattle.gauges.specs.Gauges.{joined}
+use Rattle.counted_io.specs.Gauges.{joined}
 use Rattle.intake.proofs.texts.join.Given as goal
 
 -- the buffer holds the pieces so far

@@ -1,9 +1,9 @@
 use Rattle.std.proofs.Common.{List, ℕ, [], subst, rules, append-nil, OnOk, IfOk, IfErr, ◌≡◌, ◌∙◌, ◌≤◌, ◌<◌, ◌^◌, ◌++◌, length}
 use Rattle.std.specs.Io.KnownBytes.{Appends}
-use Rattle.gauges.specs.Gauges.{AppendsBeginning, joined}
-use Rattle.profile.specs.Response.{response_bytes}
+use Rattle.counted_io.specs.Gauges.{AppendsBeginning, joined}
+use Rattle.definitions.specs.Response.{response_bytes}
 use Rattle.intake.specs.Answers.{seen, body_bytes}
-use Rattle.gauges.specs.declared.sending.Unwritten.{Unwritten}
+use Rattle.counted_io.specs.declared.sending.Unwritten.{Unwritten}
 use Rattle.intake.proofs.Written.{bytes_are, parts_short}
 use Rattle.intake.proofs.texts.write_response.Given.{Over}
 use Rattle.intake.proofs.texts.write_response.Goals as goal

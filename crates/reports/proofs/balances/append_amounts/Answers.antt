@@ -1,6 +1,6 @@
 use Rattle.std.proofs.Common.{◌≡◌, ℕ, ◌+◌, ◌<◌, List, [], ◌∷◌, ◌++◌, length, get_or, take, flat_map, Bor, ap, sym, ◌∙◌, append_assoc}
 use Rattle.std.proofs.lemmas.List.{take_more, flat_map_more}
-use Rattle.profile.specs.Bytes.{right_aligned}
+use Rattle.definitions.specs.Bytes.{right_aligned}
 use Rattle.reports.proofs.balances.append_amounts.Goals as goal
 
 abbrev cell : Bor (List ℕ) → List ℕ

@@ -1,5 +1,5 @@
 use Rattle.std.proofs.Common.{◌≡◌, ◌++◌, ◌∷◌, flat_map, take}
-use Rattle.profile.specs.Bytes.{right_aligned}
+use Rattle.definitions.specs.Bytes.{right_aligned}
 use Rattle.reports.proofs.balances.append_amounts.Given as goal
 
 -- the amounts so far

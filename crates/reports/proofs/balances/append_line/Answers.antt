@@ -1,5 +1,5 @@
 use Rattle.std.proofs.Common.{◌≡◌, ◌++◌, ◌∷◌, [], ◌∙◌, flat_map}
-use Rattle.profile.specs.Bytes.{padded, right_aligned}
+use Rattle.definitions.specs.Bytes.{padded, right_aligned}
 use Rattle.reports.proofs.ColumnLaws.{line_text}
 use Rattle.reports.proofs.balances.append_line.Goals as goal
 

@@ -1,8 +1,8 @@
 use Rattle.std.proofs.Common.{◌≡◌, take}
-use Rattle.profile.specs.declared.rules.Rules.TheVariants.{Two}
-use Rattle.profile.specs.Reports.{stock_report}
+use Rattle.definitions.specs.Rules.{Today}
+use Rattle.definitions.specs.Reports.{stock_report}
 use Rattle.reports.proofs.balances.stock_report.Given as goal
 
 -- the report of the rows so far
 abbrev pub invariant-loop-row : goal.invariant-loop-row
-invariant-loop-row l = l.text.items ≡ stock_report Two (take l.row-index l.rows)
+invariant-loop-row l = l.text.items ≡ stock_report Today (take l.row-index l.rows)

@@ -1,6 +1,6 @@
 use Rattle.std.proofs.Common.{◌++◌, [], List, ℕ, ap, ◌∙◌}
-use Rattle.profile.specs.Header.{Who, who_text}
-use Rattle.profile.specs.Reports.{ended}
+use Rattle.definitions.specs.Header.{Who, who_text}
+use Rattle.definitions.specs.Reports.{ended}
 use Rattle.reports.proofs.MoreLaws.{one_more}
 use Rattle.reports.proofs.depositors.depositor_list.Goals as goal
 

@@ -1,6 +1,6 @@
 use Rattle.std.proofs.Common.{[], ◌∷◌, take, subst, codes}
-use Rattle.profile.specs.declared.rules.Rules.TheVariants.{Two}
-use Rattle.profile.specs.Reports.{stock_csv, stock_record}
+use Rattle.definitions.specs.Rules.{Today}
+use Rattle.definitions.specs.Reports.{stock_csv, stock_record}
 use Rattle.reports.specs.Exports.{HoldsText}
 use Rattle.reports.proofs.MoreLaws.{one_more}
 use Rattle.reports.proofs.WriterLaws.{holds_more}
@@ -14,6 +14,6 @@ loop-row-init c =
 
 pub loop-row-preserved : goal.loop-row-preserved
 loop-row-preserved c =
-    let more = c.in_ok-write_row.ensures (stock_csv Two (take c.loop-row.row-index c.args.rows.now)) c.loop-row.invariant in
-    let told = one_more (stock_record Two) (stock_csv Two []) c.args.rows.now c.loop-row.row-index c.row-item.result c.loop-row-test.true c.row-item.is in
+    let more = c.in_ok-write_row.ensures (stock_csv Today (take c.loop-row.row-index c.args.rows.now)) c.loop-row.invariant in
+    let told = one_more (stock_record Today) (stock_csv Today []) c.args.rows.now c.loop-row.row-index c.row-item.result c.loop-row-test.true c.row-item.is in
     subst (HoldsText c.write_row.new.writer) told more

@@ -1,5 +1,5 @@
 use Rattle.std.proofs.Common.{◌≡◌, ◌++◌, ◌∷◌, [], ◌∙◌}
-use Rattle.profile.specs.Bytes.{padded, right_aligned}
+use Rattle.definitions.specs.Bytes.{padded, right_aligned}
 use Rattle.reports.proofs.OpenLaws.{four_columns}
 use Rattle.reports.proofs.open_work.append_advice_columns.Goals as goal
 

@@ -1,5 +1,5 @@
 use Rattle.std.proofs.Common.{◌≡◌, ◌++◌, ◌∙◌, take, flat_map, ap}
-use Rattle.profile.specs.Page.{PageOrder}
+use Rattle.definitions.specs.Page.{PageOrder}
 use Rattle.reports.specs.Open.{order_line, short_part}
 use Rattle.reports.proofs.MoreLaws.{one_more}
 use Rattle.reports.proofs.open_work.append_order.Goals as goal

@@ -1,5 +1,5 @@
 use Rattle.std.proofs.Common.{◌++◌, List, ℕ, Vec, Global, ap, sym, ◌∙◌, arith}
-use Rattle.profile.specs.Page.{PageOrder}
+use Rattle.definitions.specs.Page.{PageOrder}
 use Rattle.reports.specs.Open.{order_headings, order_part}
 use Rattle.reports.proofs.MoreLaws.{one_passes, one_fails}
 use Rattle.reports.proofs.OpenLaws.{all_after}

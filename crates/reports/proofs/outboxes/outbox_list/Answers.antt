@@ -1,5 +1,5 @@
 use Rattle.std.proofs.Common.{◌++◌, [], List, ℕ, ap, ◌∙◌}
-use Rattle.profile.specs.Reports.{outbox_line}
+use Rattle.definitions.specs.Reports.{outbox_line}
 use Rattle.reports.proofs.MoreLaws.{one_more}
 use Rattle.reports.proofs.outboxes.outbox_list.Goals as goal
 

@@ -1,5 +1,5 @@
 use Rattle.std.proofs.Common.{◌≡◌, take}
-use Rattle.profile.specs.Reports.{outbox_list}
+use Rattle.definitions.specs.Reports.{outbox_list}
 use Rattle.reports.proofs.outboxes.outbox_list.Given as goal
 
 -- the list of the rows so far

@@ -1,7 +1,7 @@
 use Rattle.std.proofs.Common.{◌≡◌, ◌++◌, ◌∙◌, take, flat_map, codes, ap}
 use Rattle.std.specs.Prelude.{option_to_list}
-use Rattle.profile.specs.Page.{PageOrder}
-use Rattle.profile.specs.Reports.{ended, address_lines}
+use Rattle.definitions.specs.Page.{PageOrder}
+use Rattle.definitions.specs.Reports.{ended, address_lines}
 use Rattle.reports.specs.Picking.{order_lines}
 use Rattle.reports.proofs.MoreLaws.{one_more}
 use Rattle.reports.proofs.picking.picking_sheet.Goals as goal

@@ -1,6 +1,6 @@
 use Rattle.std.proofs.Common.{◌≡◌, ◌++◌, take, flat_map, codes}
 use Rattle.std.specs.Prelude.{option_to_list}
-use Rattle.profile.specs.Reports.{ended, address_lines}
+use Rattle.definitions.specs.Reports.{ended, address_lines}
 use Rattle.reports.specs.Picking.{order_lines}
 use Rattle.reports.proofs.picking.picking_sheet.Given as goal
 

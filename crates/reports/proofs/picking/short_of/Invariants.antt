@@ -1,5 +1,5 @@
 use Rattle.std.proofs.Common.{◌≡◌, ◌-◌, take}
-use Rattle.profile.specs.Texts.{total_of}
+use Rattle.definitions.specs.Texts.{total_of}
 use Rattle.reports.specs.Picking.{held_of}
 use Rattle.reports.proofs.picking.short_of.Given as goal
 

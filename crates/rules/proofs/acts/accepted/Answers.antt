@@ -1,8 +1,8 @@
 use Rattle.std.proofs.Common.{◌∙◌, ap, arith}
-use Rattle.profile.specs.Clerk.{performed}
-use Rattle.profile.specs.Reply.{clerk_entry}
-use Rattle.repeats.specs.Asked.{act_of}
-use Rattle.repeats.specs.Written.{written_as}
+use Rattle.definitions.specs.Clerk.{performed}
+use Rattle.definitions.specs.Reply.{clerk_entry}
+use Rattle.entries.specs.Asked.{act_of}
+use Rattle.entries.specs.Written.{written_as}
 use Rattle.rules.proofs.Performs.{act_accepted}
 use Rattle.rules.proofs.acts.accepted.Goals as goal
 

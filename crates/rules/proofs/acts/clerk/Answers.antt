@@ -1,10 +1,10 @@
 use Rattle.std.proofs.Common.{ap, sym, subst}
 use Rattle.std.proofs.lemmas.Result.{IfOk-weaker}
-use Rattle.profile.specs.Register.{Clerk}
-use Rattle.repeats.specs.Asked.{act_of}
+use Rattle.definitions.specs.Register.{Clerk}
+use Rattle.entries.specs.Asked.{act_of}
 use Rattle.std.specs.Prelude.{Option, Some, option_copied}
-use Rattle.profile.specs.Decision as known
-use Rattle.repeats.specs.Replies.{IsReply}
+use Rattle.definitions.specs.Decision as known
+use Rattle.entries.specs.Replies.{IsReply}
 use Rattle.rules.proofs.Performs.{none_known}
 use Rattle.rules.proofs.Leading.{nowhere}
 use Rattle.rules.proofs.acts.clerk.Goals as goal

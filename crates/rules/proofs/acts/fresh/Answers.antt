@@ -1,8 +1,8 @@
 use Rattle.std.proofs.Common.{◌+◌, ◌∙◌}
 use Rattle.std.proofs.lemmas.Result.{IfOk-weaker}
-use Rattle.profile.specs.Register.{Clerk}
-use Rattle.profile.specs.Reply.{clerk_entry}
-use Rattle.repeats.specs.Asked.{act_of}
+use Rattle.definitions.specs.Register.{Clerk}
+use Rattle.definitions.specs.Reply.{clerk_entry}
+use Rattle.entries.specs.Asked.{act_of}
 use Rattle.rules.proofs.Performs.{act_done, act_told_of}
 use Rattle.rules.proofs.Leading.{act_leads, nowhere}
 use Rattle.rules.proofs.acts.fresh.Goals as goal

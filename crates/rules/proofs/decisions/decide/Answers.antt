@@ -1,13 +1,13 @@
 use Rattle.std.proofs.Common.{sym, subst}
 use Rattle.std.specs.Prelude.{Option, IfOk, option_copied}
 use Rattle.std.proofs.lemmas.Result.{IfOk-weaker}
-use Rattle.profile.specs.Decision as meant
+use Rattle.definitions.specs.Decision as meant
 use Rattle.rules.proofs.LeadsOn.{all_lead}
-use Rattle.profile.specs.History.{History}
-use Rattle.repeats.specs.Asked.{asked}
+use Rattle.definitions.specs.History.{History}
+use Rattle.entries.specs.Asked.{asked}
 use Rattle.rules.specs.Decided.{IsGiven, LeadsFrom, entries_of}
-use Rattle.repeats.specs.Replies.{IsReply}
-use Rattle.repeats.specs.declared.commands.Command.{Command}
+use Rattle.entries.specs.Replies.{IsReply}
+use Rattle.entries.specs.declared.commands.Command.{Command}
 use Rattle.rules.proofs.decisions.decide.Goals as goal
 
 pub returns-in-Interchange-clause-reply : goal.returns-in-Interchange-clause-reply

@@ -1,6 +1,6 @@
 use Rattle.std.specs.Prelude.{option_copied}
 use Rattle.std.proofs.lemmas.Result.{IfOk-weaker}
-use Rattle.repeats.specs.Asked.{act_of}
+use Rattle.entries.specs.Asked.{act_of}
 use Rattle.rules.proofs.Performs.{clerk_given}
 use Rattle.rules.proofs.Leading.{nowhere_from, from_page}
 use Rattle.rules.proofs.decisions.perform.Goals as goal

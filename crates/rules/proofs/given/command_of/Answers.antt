@@ -1,6 +1,6 @@
 use Rattle.std.proofs.Common.{◌≡◌, ℕ, ◌∷◌, sym, ap, ◌∙◌}
 use Rattle.std.proofs.lemmas.Result.{IfOk-weaker}
-use Rattle.repeats.specs.Written.{Written}
+use Rattle.entries.specs.Written.{Written}
 use Rattle.rules.proofs.GivenRead.{act_given}
 use Rattle.rules.proofs.given.command_of.Goals as goal
 

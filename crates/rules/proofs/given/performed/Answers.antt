@@ -1,12 +1,12 @@
 use Rattle.std.proofs.Common.{rules, ◌≡◌, true, ap}
 use Rattle.std.specs.Prelude.{IsTrue, Option, Some, option_map}
 use Rattle.std.specs.Cmp.Derive.{both_true}
-use Rattle.profile.specs.Limits.{most_ticket}
-use Rattle.profile.specs.Bytes.{is_identifier}
-use Rattle.profile.specs.Header.{is_partner}
-use Rattle.profile.specs.Register.{Act, Clerk}
-use Rattle.profile.specs.Clerk.{is_act}
-use Rattle.profile.proofs.TextLaws.{both_parts}
+use Rattle.definitions.specs.Limits.{most_ticket}
+use Rattle.definitions.specs.Bytes.{is_identifier}
+use Rattle.definitions.specs.Header.{is_partner}
+use Rattle.definitions.specs.Register.{Act, Clerk}
+use Rattle.definitions.specs.Clerk.{is_act}
+use Rattle.definitions.proofs.TextLaws.{both_parts}
 use Rattle.rules.specs.ReadActs.{read_act}
 use Rattle.rules.specs.declared.readings.ReadAct.{ReadAct}
 use Rattle.rules.proofs.Plays.{read_same, read_none}

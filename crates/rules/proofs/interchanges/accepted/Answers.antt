@@ -1,20 +1,20 @@
 use Rattle.std.proofs.Common.{List, ap, ◌∙◌, sym, subst, arith, length}
-use Rattle.profile.specs.History.{after_entry}
-use Rattle.profile.specs.Reply.{interchange_entry}
-use Rattle.profile.specs.Rows.{LotRow}
-use Rattle.profile.specs.Texts.{Told}
+use Rattle.definitions.specs.History.{after_entry}
+use Rattle.definitions.specs.Reply.{interchange_entry}
+use Rattle.definitions.specs.Rows.{LotRow}
+use Rattle.definitions.specs.Texts.{Told}
 use Rattle.sets_out.specs.Headings.{heading_of}
 use Rattle.sets_out.specs.Interchanges.{answer_of}
 use Rattle.stock.specs.Pages.{PageFacts}
 use Rattle.std.specs.Prelude.{sum_by}
 use Rattle.std.specs.List.{AllByRecursion}
-use Rattle.profile.specs.Structure.{Group, groups_of}
-use Rattle.profile.specs.Cut.{cut}
-use Rattle.profile.specs.Header.{delims_of}
+use Rattle.definitions.specs.Structure.{Group, groups_of}
+use Rattle.definitions.specs.Cut.{cut}
+use Rattle.definitions.specs.Header.{delims_of}
 use Rattle.envelope.specs.Parts.{GroupsOf}
 use Rattle.stock.specs.declared.steps.Change.{Change}
 use Rattle.rules.specs.Decided.{AreLeading}
-use Rattle.sets_taken.specs.Judging.{IsSmall, AreGroupsTaken}
+use Rattle.set_effects.specs.Judging.{IsSmall, AreGroupsTaken}
 use Rattle.rules.specs.Lasting.{HaveRows}
 use Rattle.rules.proofs.Content.{content}
 use Rattle.rules.proofs.Decides.{accepted_reply}

@@ -1,12 +1,12 @@
 use Rattle.std.proofs.Common.{◌≡◌, ℕ, ap, refl, subst, sym, ◌∙◌, Some, None}
 use Rattle.std.specs.Prelude.{Option}
 use Rattle.std.proofs.lemmas.Result.{IfOk-weaker}
-use Rattle.profile.specs.Header.{Who}
-use Rattle.profile.specs.Halt.{header_notes, structure_note}
-use Rattle.profile.specs.Register.{Interchange}
-use Rattle.profile.specs.Decision.{new_note, interchange_new, accepted_by}
-use Rattle.profile.specs.Reply.{interchange_entry}
-use Rattle.repeats.specs.Replies.{IsReply}
+use Rattle.definitions.specs.Header.{Who}
+use Rattle.definitions.specs.Halt.{header_notes, structure_note}
+use Rattle.definitions.specs.Register.{Interchange}
+use Rattle.definitions.specs.Decision.{new_note, interchange_new, accepted_by}
+use Rattle.definitions.specs.Reply.{interchange_entry}
+use Rattle.entries.specs.Replies.{IsReply}
 use Rattle.envelope.specs.Conditions.{first_note}
 use Rattle.rules.proofs.Decides.{noted_header, noted_segments, noted_new, accepted_new}
 use Rattle.rules.proofs.Leading.{nothing_made, nowhere}

@@ -1,7 +1,7 @@
 use Rattle.std.proofs.Common.{subst}
 use Rattle.std.proofs.lemmas.Result.{IfOk-weaker}
-use Rattle.profile.specs.Halt.{structure_note}
-use Rattle.profile.specs.Register.{Interchange}
+use Rattle.definitions.specs.Halt.{structure_note}
+use Rattle.definitions.specs.Register.{Interchange}
 use Rattle.envelope.specs.Conditions.{IsTold}
 use Rattle.envelope.specs.declared.halt.Halt.{Halt}
 use Rattle.rules.proofs.Decides.{noted_new}

@@ -1,6 +1,6 @@
 use Rattle.std.proofs.lemmas.Result.{IfOk-weaker}
 use Rattle.rules.specs.Decided.{entries_of}
-use Rattle.repeats.proofs.Again.{readable_reply}
+use Rattle.entries.proofs.Again.{readable_reply}
 use Rattle.rules.proofs.Leading.{nowhere_from}
 use Rattle.rules.proofs.interchanges.interchange.Goals as goal
 

@@ -1,9 +1,9 @@
 use Rattle.std.proofs.Common.{◌≡◌, ap, None}
 use Rattle.std.specs.Prelude.{Option, option_copied}
 use Rattle.std.proofs.lemmas.Result.{IfOk-weaker}
-use Rattle.profile.specs.History.{History}
-use Rattle.profile.specs.Register.{Interchange}
-use Rattle.profile.specs.Decision as recalled
+use Rattle.definitions.specs.History.{History}
+use Rattle.definitions.specs.Register.{Interchange}
+use Rattle.definitions.specs.Decision as recalled
 use Rattle.rules.specs.Decided.{IsGiven, entries_of}
 use Rattle.rules.proofs.Decides.{no_page, no_sender, sender_is, stranger_reply, given_again, given_new}
 use Rattle.rules.proofs.interchanges.readable.Goals.{in_default-via-in-Some+in_default, in_default-via-in_default}

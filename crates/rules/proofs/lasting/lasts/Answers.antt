@@ -1,5 +1,5 @@
 use Rattle.std.proofs.Common.{◌≡◌, [], ◌∷◌, not, true, set, ap, sym, ◌∙◌, subst}
-use Rattle.profile.specs.Rows.{LotRow}
+use Rattle.definitions.specs.Rows.{LotRow}
 use Rattle.stock.specs.Moved.{IsPlace}
 use Rattle.stock.specs.OfPairs.{of_pair, one}
 use Rattle.stock.specs.declared.steps.Change.{Change}

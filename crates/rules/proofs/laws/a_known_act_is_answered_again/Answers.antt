@@ -1,5 +1,5 @@
-use Rattle.profile.specs.Register.{Clerk}
-use Rattle.profile.specs.Reply.{stored}
+use Rattle.definitions.specs.Register.{Clerk}
+use Rattle.definitions.specs.Reply.{stored}
 use Rattle.rules.proofs.Follows.{act_stored, nothing_after}
 use Rattle.rules.proofs.laws.a_known_act_is_answered_again.Goals as goal
 

@@ -1,5 +1,5 @@
-use Rattle.profile.specs.Register.{Interchange}
-use Rattle.profile.specs.Reply.{stored}
+use Rattle.definitions.specs.Register.{Interchange}
+use Rattle.definitions.specs.Reply.{stored}
 use Rattle.rules.proofs.Follows.{interchange_stored, nothing_after}
 use Rattle.rules.proofs.laws.a_known_interchange_is_answered_again.Goals as goal
 

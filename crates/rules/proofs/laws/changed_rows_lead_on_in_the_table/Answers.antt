@@ -1,4 +1,4 @@
-use Rattle.sets_taken.proofs.Tables.{stock_led}
+use Rattle.set_effects.proofs.Tables.{stock_led}
 use Rattle.rules.proofs.laws.changed_rows_lead_on_in_the_table.Goals as goal
 
 pub returns : goal.returns

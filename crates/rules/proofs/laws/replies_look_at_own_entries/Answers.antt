@@ -1,6 +1,6 @@
 use Rattle.std.proofs.Common.{List, ap}
-use Rattle.profile.specs.Register.{Entry}
-use Rattle.profile.specs.Reply.{reply}
+use Rattle.definitions.specs.Register.{Entry}
+use Rattle.definitions.specs.Reply.{reply}
 use Rattle.rules.proofs.Follows.{same_own}
 use Rattle.rules.proofs.laws.replies_look_at_own_entries.Goals as goal
 

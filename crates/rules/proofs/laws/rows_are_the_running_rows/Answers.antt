@@ -1,4 +1,4 @@
-use Rattle.sets_taken.proofs.Rowed.{rows_are}
+use Rattle.set_effects.proofs.Rowed.{rows_are}
 use Rattle.rules.proofs.laws.rows_are_the_running_rows.Goals as goal
 
 pub returns : goal.returns

@@ -1,7 +1,7 @@
 use Rattle.std.proofs.Common.{◌++◌, [], sym, ap, ◌∙◌, append-nil}
 use Rattle.std.specs.Prelude.{Option}
 use Rattle.std.specs.List.{cons_option}
-use Rattle.profile.specs.Clerk.{RawLine}
+use Rattle.definitions.specs.Clerk.{RawLine}
 use Rattle.rules.proofs.ReadBack.{more_records}
 use Rattle.rules.proofs.readings.lines.Goals.{in-Some+in_ok-push, in_default}
 use Rattle.rules.proofs.readings.lines.Goals as goal

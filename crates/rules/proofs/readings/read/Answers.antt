@@ -1,7 +1,7 @@
 use Rattle.std.proofs.Common.{◌≡◌, sym, ap, ◌∙◌, true, false}
 use Rattle.std.specs.Prelude.{bytes_eq, option_map, Option}
-use Rattle.profile.proofs.TextLaws.{text_is}
-use Rattle.profile.specs.Register.{canonical}
+use Rattle.definitions.proofs.TextLaws.{text_is}
+use Rattle.definitions.specs.Register.{canonical}
 use Rattle.rules.specs.ReadActs.{read_act}
 use Rattle.rules.specs.declared.readings.ReadAct.{ReadAct}
 use Rattle.rules.proofs.ReadBack.{none_read, same_read, other_read}

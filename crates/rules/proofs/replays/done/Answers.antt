@@ -3,10 +3,10 @@ use Rattle.std.proofs.lemmas.Result.{IfOk-weaker}
 use Rattle.stock.specs.Pages.{PageFacts}
 use Rattle.stock.specs.Parts.{all_named}
 use Rattle.stock.proofs.PartLemmas.{part_of_self}
-use Rattle.repeats.specs.Asked.{act_of}
+use Rattle.entries.specs.Asked.{act_of}
 use Rattle.rules.proofs.Whole.{all_act}
 use Rattle.stock.specs.Shows.{Shows}
-use Rattle.repeats.specs.Asked.{act_of}
+use Rattle.entries.specs.Asked.{act_of}
 use Rattle.rules.proofs.Plays.{done_played, stopped_played}
 use Rattle.rules.proofs.replays.done.Goals as goal
 

@@ -1,13 +1,13 @@
 use Rattle.std.proofs.Common.{List, ◌∙◌, ap, sym, subst, arith, length}
 use Rattle.std.specs.Prelude.{sum_by}
 use Rattle.std.specs.List.{AllByRecursion}
-use Rattle.profile.specs.Header.{delims_of}
-use Rattle.profile.specs.Structure.{Group}
-use Rattle.profile.specs.Texts.{Told}
+use Rattle.definitions.specs.Header.{delims_of}
+use Rattle.definitions.specs.Structure.{Group}
+use Rattle.definitions.specs.Texts.{Told}
 use Rattle.sets_out.specs.Headings.{heading_of}
 use Rattle.sets_out.specs.Interchanges.{answer_of}
 use Rattle.envelope.specs.Parts.{GroupsOf}
-use Rattle.sets_taken.specs.Judging.{IsSmall, AreGroupsTaken}
+use Rattle.set_effects.specs.Judging.{IsSmall, AreGroupsTaken}
 use Rattle.rules.proofs.Content.{content}
 use Rattle.rules.proofs.Plays.{grouped_played}
 use Rattle.rules.proofs.replays.grouped.Goals as goal

@@ -1,8 +1,8 @@
 use Rattle.std.proofs.Common.{◌∙◌, ap, subst}
 use Rattle.std.specs.Prelude.{Option, option_map}
 use Rattle.std.proofs.lemmas.Result.{IfOk-weaker}
-use Rattle.profile.specs.Register.{Act}
-use Rattle.profile.specs.Reply.{clerk_entry}
+use Rattle.definitions.specs.Register.{Act}
+use Rattle.definitions.specs.Reply.{clerk_entry}
 use Rattle.rules.specs.ReadActs.{read_act}
 use Rattle.rules.specs.Played.{IsPlayed}
 use Rattle.rules.specs.declared.readings.ReadAct.{ReadAct}

@@ -1,6 +1,6 @@
 use Rattle.std.proofs.Common.{[], ◌∷◌, ◌∙◌, sym, ap, subst}
 use Rattle.std.specs.Prelude.{Option}
-use Rattle.profile.specs.Events.{Enrolment}
+use Rattle.definitions.specs.Events.{Enrolment}
 use Rattle.stock.specs.Pages.{PageFacts}
 use Rattle.stock.specs.Shows.{Shows}
 use Rattle.rules.specs.Played.{IsBefore}

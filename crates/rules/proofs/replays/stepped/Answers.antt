@@ -1,6 +1,6 @@
 use Rattle.stock.specs.Parts.{all_named}
 use Rattle.stock.proofs.PartLemmas.{part_of_self}
-use Rattle.repeats.specs.Asked.{act_of}
+use Rattle.entries.specs.Asked.{act_of}
 use Rattle.rules.proofs.Whole.{all_act}
 use Rattle.rules.proofs.replays.stepped.Goals as goal
 

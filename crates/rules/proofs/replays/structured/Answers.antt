@@ -1,6 +1,6 @@
 use Rattle.std.proofs.Common.{List, subst}
 use Rattle.std.proofs.lemmas.Result.{IfOk-weaker}
-use Rattle.profile.specs.Register.{Received}
+use Rattle.definitions.specs.Register.{Received}
 use Rattle.rules.specs.Played.{IsPlayed}
 use Rattle.rules.proofs.replays.structured.Goals as goal
 

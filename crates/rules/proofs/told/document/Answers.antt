@@ -1,9 +1,9 @@
 use Rattle.std.proofs.Common.{◌≡◌, ◌∙◌, Ok, true, sym, subst}
 use Rattle.stock.specs.Parts.{NamesCount, NamesPick, are_items}
 use Rattle.rules.specs.Needs.{NamesAct}
-use Rattle.profile.specs.Clerk.{performed}
-use Rattle.repeats.specs.Asked.{act_of}
-use Rattle.repeats.specs.declared.commands.Act.{Act}
+use Rattle.definitions.specs.Clerk.{performed}
+use Rattle.entries.specs.Asked.{act_of}
+use Rattle.entries.specs.declared.commands.Act.{Act}
 use Rattle.std.proofs.lemmas.Result.{IfOk-weaker}
 use Rattle.rules.proofs.DocumentLaws.{adjustment_part, receipt_is, shipment_is, adjustment_is}
 use Rattle.rules.proofs.told.document.Goals as goal

@@ -1,6 +1,6 @@
 use Rattle.std.proofs.Common.{◌≡◌, ◌≤◌, take}
 use Rattle.std.specs.Prelude.{min}
-use Rattle.profile.specs.Bytes as bytes
+use Rattle.definitions.specs.Bytes as bytes
 use Rattle.segments.proofs.digits.value_up_to.Given as goal
 
 abbrev pub invariant-loop-b : goal.invariant-loop-b

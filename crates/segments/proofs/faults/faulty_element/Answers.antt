@@ -1,5 +1,5 @@
 use Rattle.std.specs.Prelude.{ℕ, ◌+◌, Bool, Option, Some, None, if◌then◌else◌, length}
-use Rattle.profile.specs.Elements.{ElementFault}
+use Rattle.definitions.specs.Elements.{ElementFault}
 use Rattle.std.proofs.Common.{refl, arith}
 use Rattle.std.proofs.Common.{sym, ◌∙◌, ap}
 use Rattle.segments.proofs.Scans.{found_here, none_here, at_the_end}

@@ -1,5 +1,5 @@
 use Rattle.std.proofs.Common.{◌≡◌, ◌+◌, map, drop}
-use Rattle.profile.specs.Elements as meant
+use Rattle.definitions.specs.Elements as meant
 use Rattle.segments.specs.Rows.{row_of}
 use Rattle.segments.proofs.faults.faulty_element.Given as goal
 

@@ -1,8 +1,8 @@
 use Rattle.std.proofs.Common.{◌≡◌, List, sym, subst}
 use Rattle.std.specs.Prelude.{IfOk}
 use Rattle.std.proofs.lemmas.Result.{IfOk-weaker}
-use Rattle.profile.specs.Cut.{Piece, segments_of}
-use Rattle.profile.specs.Means.{Acknowledgment, acknowledgment_of}
+use Rattle.definitions.specs.Cut.{Piece, segments_of}
+use Rattle.definitions.specs.Means.{Acknowledgment, acknowledgment_of}
 use Rattle.sets_in.specs.SaidAck.{SaysAck}
 use Rattle.sets_in.proofs.acks.ack.Goals as goal
 

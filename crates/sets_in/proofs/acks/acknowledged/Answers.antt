@@ -1,8 +1,8 @@
 use Rattle.std.proofs.Common.{List, sym, subst}
 use Rattle.std.specs.Prelude.{codes}
-use Rattle.profile.specs.Cut.{Piece, segments_of, segment_with, element}
+use Rattle.definitions.specs.Cut.{Piece, segments_of, segment_with, element}
 use Rattle.sets_in.specs.Amounts.{IsAmount}
-use Rattle.profile.specs.Means.{acknowledgment_of}
+use Rattle.definitions.specs.Means.{acknowledgment_of}
 use Rattle.sets_in.specs.SaidAck.{SaysAck}
 use Rattle.sets_in.proofs.Counted.{document_known}
 use Rattle.sets_in.proofs.AckMeaning.{says_ack}

@@ -1,6 +1,6 @@
 use Rattle.std.proofs.Common.{sym, ◌∙◌, ap}
 use Rattle.std.specs.Prelude.{codes, ◌||◌}
-use Rattle.profile.specs.Cut.{Piece, has_id}
+use Rattle.definitions.specs.Cut.{Piece, has_id}
 use Rattle.sets_in.proofs.Places.{belongs_here}
 use Rattle.sets_in.proofs.addresses.belonging.Goals as goal
 

@@ -1,7 +1,7 @@
 use Rattle.std.proofs.Common.{◌≡◌, ◌++◌, take, drop}
 use Rattle.std.specs.Prelude.{codes, ◌||◌}
 use Rattle.std.specs.List.{take_while}
-use Rattle.profile.specs.Cut.{segments_of, has_id}
+use Rattle.definitions.specs.Cut.{segments_of, has_id}
 use Rattle.sets_in.proofs.addresses.belonging.Given as goal
 
 -- all that came belong

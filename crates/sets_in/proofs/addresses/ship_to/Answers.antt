@@ -2,8 +2,8 @@ use Rattle.std.proofs.Common.{◌≡◌, ◌+◌, ◌-◌, List, drop, take, len
 use Rattle.std.specs.Prelude.{codes, ◌||◌}
 use Rattle.std.specs.List.{take_while}
 use Rattle.std.proofs.lemmas.List.{take_all}
-use Rattle.profile.specs.Cut.{Piece, has_id, segments_of}
-use Rattle.profile.specs.Means.{is_ship_to, address_of}
+use Rattle.definitions.specs.Cut.{Piece, has_id, segments_of}
+use Rattle.definitions.specs.Means.{is_ship_to, address_of}
 use Rattle.sets_in.proofs.Places.{ship_to_here, ship_to_later}
 use Rattle.sets_in.proofs.addresses.ship_to.Goals as goal
 

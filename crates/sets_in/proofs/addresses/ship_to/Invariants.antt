@@ -1,6 +1,6 @@
 use Rattle.std.proofs.Common.{◌≡◌, drop}
-use Rattle.profile.specs.Cut.{segments_of}
-use Rattle.profile.specs.Means.{ship_to}
+use Rattle.definitions.specs.Cut.{segments_of}
+use Rattle.definitions.specs.Means.{ship_to}
 use Rattle.sets_in.proofs.addresses.ship_to.Given as goal
 
 -- the first ship-to is the first of those that are left

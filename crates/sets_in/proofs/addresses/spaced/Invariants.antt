@@ -1,5 +1,5 @@
 use Rattle.std.proofs.Common.{◌≡◌, map, drop}
-use Rattle.profile.specs.Means.{spaced}
+use Rattle.definitions.specs.Means.{spaced}
 use Rattle.sets_in.proofs.Spaced.{spaced_after}
 use Rattle.sets_in.proofs.addresses.spaced.Given as goal
 

@@ -1,6 +1,6 @@
 use Rattle.std.proofs.Common.{◌∙◌, ap, arith}
-use Rattle.profile.specs.Bytes.{value}
-use Rattle.profile.specs.declared.widths.TheConstants.{QUANTITY_DIGITS_TWO}
+use Rattle.definitions.specs.Bytes.{value}
+use Rattle.definitions.specs.declared.widths.TheConstants.{QUANTITY_DIGITS_TWO}
 use Rattle.sets_in.proofs.Values.{amount_bound}
 use Rattle.sets_in.proofs.advices.advice_line.Goals as goal
 

@@ -1,9 +1,9 @@
 use Rattle.std.proofs.Common.{List, sym, subst}
 use Rattle.std.specs.Prelude.{codes}
-use Rattle.profile.specs.Cut.{Piece, segments_of}
-use Rattle.profile.specs.declared.widths.TheConstants.{ADVICE_TOTAL_DIGITS_TWO}
+use Rattle.definitions.specs.Cut.{Piece, segments_of}
+use Rattle.definitions.specs.declared.widths.TheConstants.{ADVICE_TOTAL_DIGITS_TWO}
 use Rattle.sets_in.specs.Amounts.{IsCountable}
-use Rattle.profile.specs.Means.{advice_of}
+use Rattle.definitions.specs.Means.{advice_of}
 use Rattle.sets_in.specs.Said.{SaysAdvice}
 use Rattle.sets_in.proofs.Counted.{advice_counted}
 use Rattle.sets_in.proofs.Meaning.{says_advice}

@@ -1,9 +1,9 @@
 use Rattle.std.proofs.Common.{◌≡◌, ◌+◌, ◌++◌, ◌≤◌, map, drop}
 use Rattle.std.specs.Prelude.{codes, All}
-use Rattle.profile.specs.declared.rules.Rules.TheVariants.{Two}
-use Rattle.profile.specs.Cut.{segments_of, places_of}
-use Rattle.profile.specs.Limits.{most_quantity}
-use Rattle.profile.specs.Means as meant
+use Rattle.definitions.specs.Rules.{Today}
+use Rattle.definitions.specs.Cut.{segments_of, places_of}
+use Rattle.definitions.specs.Limits.{most_quantity}
+use Rattle.definitions.specs.Means as meant
 use Rattle.sets_in.specs.Places.{places_from}
 use Rattle.sets_in.proofs.orders.order_lines.Given as goal
 
@@ -12,5 +12,5 @@ abbrev pub invariant-loop-index : goal.invariant-loop-index
 invariant-loop-index l = record {
   lines : map (meant.order_line (segments_of l.segments)) (places_of (codes "W01") (segments_of l.segments))
       ≡ l.lines.items ++ map (meant.order_line (segments_of l.segments)) (places_from (codes "W01") (l.index + 1) (segments_of (drop l.index l.segments)));
-  small : All (λ (x : meant.OrderLine). x.quantity ≤ most_quantity Two) l.lines.items;
+  small : All (λ (x : meant.OrderLine). x.quantity ≤ most_quantity Today) l.lines.items;
 }

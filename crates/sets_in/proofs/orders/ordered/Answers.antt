@@ -1,8 +1,8 @@
 use Rattle.std.proofs.Common.{List, sym, subst}
 use Rattle.std.specs.Prelude.{codes}
-use Rattle.profile.specs.Cut.{Piece, segments_of}
-use Rattle.profile.specs.Means.{order_of}
-use Rattle.profile.specs.declared.widths.TheConstants.{ORDER_TOTAL_DIGITS_TWO}
+use Rattle.definitions.specs.Cut.{Piece, segments_of}
+use Rattle.definitions.specs.Means.{order_of}
+use Rattle.definitions.specs.declared.widths.TheConstants.{ORDER_TOTAL_DIGITS_TWO}
 use Rattle.sets_in.specs.Amounts.{IsCountable}
 use Rattle.sets_in.specs.SaidOrder.{SaysOrder}
 use Rattle.sets_in.proofs.Counted.{order_counted}

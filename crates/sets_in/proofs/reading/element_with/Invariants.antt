@@ -1,5 +1,5 @@
 use Rattle.std.proofs.Common.{◌≡◌, drop}
-use Rattle.profile.specs.Cut.{segments_of, segment_with}
+use Rattle.definitions.specs.Cut.{segments_of, segment_with}
 use Rattle.sets_in.proofs.reading.element_with.Given as goal
 
 -- the first with the id is the first of those that are left

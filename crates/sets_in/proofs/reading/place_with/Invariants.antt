@@ -1,7 +1,7 @@
 use Rattle.std.proofs.Common.{◌≡◌, ◌+◌, drop}
 use Rattle.std.specs.Prelude.{slice_get, unwrap_or}
-use Rattle.profile.specs.Cut.{segments_of}
-use Rattle.profile.specs.Means.{place_of}
+use Rattle.definitions.specs.Cut.{segments_of}
+use Rattle.definitions.specs.Means.{place_of}
 use Rattle.sets_in.specs.Places.{places_from}
 use Rattle.sets_in.proofs.reading.place_with.Given as goal
 

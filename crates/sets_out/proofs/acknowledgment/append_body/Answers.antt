@@ -1,6 +1,6 @@
 use Rattle.std.proofs.Common.{[], ◌∷◌, subst}
 use Rattle.std.specs.Prelude.{codes, flat_map}
-use Rattle.profile.specs.Texts.{Told, told_segments}
+use Rattle.definitions.specs.Texts.{Told, told_segments}
 use Rattle.segments.proofs.ExtendsLemmas.{extends_trans}
 use Rattle.sets_out.specs.Appends.{Writes}
 use Rattle.sets_out.proofs.AppendsLaws.{appends_then}

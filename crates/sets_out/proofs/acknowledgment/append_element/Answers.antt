@@ -1,7 +1,7 @@
 use Rattle.std.proofs.Common.{Some, subst}
 use Rattle.std.specs.Prelude.{IfOk}
-use Rattle.profile.specs.Elements.{ElementFault}
-use Rattle.profile.specs.Texts.{ak4_segments}
+use Rattle.definitions.specs.Elements.{ElementFault}
+use Rattle.definitions.specs.Texts.{ak4_segments}
 use Rattle.sets_out.specs.Appends.{Writes}
 use Rattle.sets_out.proofs.acknowledgment.append_element.Goals as goal
 

@@ -1,6 +1,6 @@
 use Rattle.std.proofs.Common.{◌+◌, Some, subst}
-use Rattle.profile.specs.Faults.{SetFault}
-use Rattle.profile.specs.Texts.{ak3_segments}
+use Rattle.definitions.specs.Faults.{SetFault}
+use Rattle.definitions.specs.Texts.{ak3_segments}
 use Rattle.segments.proofs.ExtendsLemmas.{extends_trans}
 use Rattle.sets_out.specs.Appends.{Writes}
 use Rattle.sets_out.proofs.AppendsLaws.{appends_then}

@@ -1,5 +1,5 @@
 use Rattle.std.proofs.Common.{◌+◌, subst}
-use Rattle.profile.specs.Texts.{ToldSet, told_segments}
+use Rattle.definitions.specs.Texts.{ToldSet, told_segments}
 use Rattle.segments.proofs.ExtendsLemmas.{extends_trans}
 use Rattle.sets_out.specs.Appends.{Writes}
 use Rattle.sets_out.proofs.AppendsLaws.{appends_then}

@@ -1,4 +1,4 @@
-use Rattle.profile.specs.Texts.{told_segments}
+use Rattle.definitions.specs.Texts.{told_segments}
 use Rattle.segments.proofs.ExtendsLemmas.{extends_trans}
 use Rattle.sets_out.proofs.AppendsLaws.{appends_more, appends_all}
 use Rattle.sets_out.proofs.acknowledgment.append_sets.Goals as goal

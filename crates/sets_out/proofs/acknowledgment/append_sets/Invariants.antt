@@ -1,6 +1,6 @@
 use Rattle.std.proofs.Common.{take}
 use Rattle.std.specs.Prelude.{flat_map}
-use Rattle.profile.specs.Texts.{told_segments}
+use Rattle.definitions.specs.Texts.{told_segments}
 use Rattle.segments.specs.Extends.{Extends}
 use Rattle.sets_out.specs.Appends.{Writes}
 use Rattle.sets_out.proofs.acknowledgment.append_sets.Given as goal

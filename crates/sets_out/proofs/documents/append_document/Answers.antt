@@ -1,5 +1,5 @@
 use Rattle.std.proofs.Common.{[], ◌∷◌}
-use Rattle.profile.specs.Texts.{own_delims, group_of_sets, receiver_of}
+use Rattle.definitions.specs.Texts.{own_delims, group_of_sets, receiver_of}
 use Rattle.segments.proofs.ExtendsLemmas.{extends_trans}
 use Rattle.sets_out.specs.Handed.{function_of, number_of, body_of}
 use Rattle.sets_out.proofs.AppendsLaws.{appends_interchange}

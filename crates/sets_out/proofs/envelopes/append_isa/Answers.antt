@@ -1,7 +1,7 @@
 use Rattle.std.proofs.Common.{[], ◌∷◌}
 use Rattle.std.specs.Prelude.{codes}
-use Rattle.profile.specs.Bytes.{padded, zero_filled}
-use Rattle.profile.specs.Moments.{date6, time4}
+use Rattle.definitions.specs.Bytes.{padded, zero_filled}
+use Rattle.definitions.specs.Moments.{date6, time4}
 use Rattle.segments.proofs.ExtendsLemmas.{extends_trans}
 use Rattle.sets_out.proofs.AppendsLaws.{appends_one}
 use Rattle.sets_out.proofs.IsaLaws.{isa_whole}

@@ -1,7 +1,7 @@
 use Rattle.std.proofs.Common.{ℕ, ◌+◌, List, sym, subst}
 use Rattle.std.specs.Prelude.{codes}
-use Rattle.profile.specs.Cut.{Segment}
-use Rattle.profile.specs.Texts.{body_997, set_of_segments}
+use Rattle.definitions.specs.Cut.{Segment}
+use Rattle.definitions.specs.Texts.{body_997, set_of_segments}
 use Rattle.segments.proofs.ExtendsLemmas.{extends_trans}
 use Rattle.sets_out.specs.Appends.{Writes}
 use Rattle.sets_out.proofs.AppendsLaws.{appends_then}

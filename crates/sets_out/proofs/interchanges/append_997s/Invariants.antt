@@ -1,6 +1,6 @@
 use Rattle.std.proofs.Common.{map, take}
 use Rattle.std.specs.Prelude.{codes}
-use Rattle.profile.specs.Texts.{body_997, sets_of_segments}
+use Rattle.definitions.specs.Texts.{body_997, sets_of_segments}
 use Rattle.segments.specs.Extends.{Extends}
 use Rattle.sets_out.specs.Appends.{Writes}
 use Rattle.sets_out.proofs.interchanges.append_997s.Given as goal

@@ -1,4 +1,4 @@
-use Rattle.profile.specs.Texts.{receiver_of}
+use Rattle.definitions.specs.Texts.{receiver_of}
 use Rattle.segments.proofs.ExtendsLemmas.{extends_trans}
 use Rattle.sets_out.specs.Interchanges.{between, groups_for}
 use Rattle.sets_out.proofs.AppendsLaws.{appends_interchange}

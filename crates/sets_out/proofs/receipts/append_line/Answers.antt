@@ -1,5 +1,5 @@
 use Rattle.std.proofs.Common.{◌+◌, subst}
-use Rattle.profile.specs.Means.{Line}
+use Rattle.definitions.specs.Means.{Line}
 use Rattle.segments.proofs.ExtendsLemmas.{extends_trans}
 use Rattle.sets_out.specs.Appends.{Writes}
 use Rattle.sets_out.specs.Documents.{received_line}

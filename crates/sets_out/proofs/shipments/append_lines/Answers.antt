@@ -2,7 +2,7 @@ use Rattle.std.proofs.Common.{◌≡◌, ℕ, ◌+◌, List, take, sym, subst}
 use Rattle.std.specs.Prelude.{flat_map}
 use Rattle.std.specs.List.{enumerate_from}
 use Rattle.std.proofs.lemmas.List.{take_all}
-use Rattle.profile.specs.Cut.{Segment}
+use Rattle.definitions.specs.Cut.{Segment}
 use Rattle.segments.proofs.ExtendsLemmas.{extends_trans}
 use Rattle.sets_out.specs.Appends.{Writes}
 use Rattle.sets_out.specs.Documents.{ShippedLine, shipped_line}

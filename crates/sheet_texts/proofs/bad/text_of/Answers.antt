@@ -1,6 +1,6 @@
 use Rattle.std.proofs.Common.{◌≡◌, true, ap, ◌∙◌, List, ℕ, Bor, rules}
 use Rattle.std.specs.List.{list_all}
-use Rattle.profile.specs.Bytes.{is_identifier_byte}
+use Rattle.definitions.specs.Bytes.{is_identifier_byte}
 use Rattle.sheet_texts.proofs.ToldLaws.{ident_text, read_text}
 use Rattle.sheet_texts.proofs.bad.text_of.Goals as goal
 

@@ -1,8 +1,8 @@
 use Rattle.std.proofs.Common.{◌≡◌, true, ◌∙◌, rules}
 use Rattle.std.proofs.lemmas.Result.{IfOk-weaker}
 use Rattle.csv.specs.Records.{fields_of}
-use Rattle.profile.specs.Bytes.{is_identifier}
-use Rattle.profile.specs.Limits.{most_item, most_lot}
+use Rattle.definitions.specs.Bytes.{is_identifier}
+use Rattle.definitions.specs.Limits.{most_item, most_lot}
 use Rattle.sheet_texts.specs.Texts.{field_of}
 use Rattle.sheet_texts.proofs.ToldLaws.{told_with}
 use Rattle.sheet_texts.proofs.bad.told_of.Goals as goal

@@ -5,8 +5,8 @@ use Rattle.csv.specs.Reading.{Reached, default_config, strip_bom}
 use Rattle.csv.specs.Records.{Row, fields_of}
 use Rattle.csv.specs.declared.parser.State.TheVariants as st
 use Rattle.csv.proofs.ReadFacts.{rows-end, rows-more}
-use Rattle.profile.specs.Limits.{most_lines}
-use Rattle.profile.specs.declared.rules.Rules.TheVariants.{Two}
+use Rattle.definitions.specs.Limits.{most_lines}
+use Rattle.definitions.specs.Rules.{Today}
 use Rattle.sheet_texts.proofs.RecordLaws.{first_read, all_read}
 use Rattle.sheet_texts.proofs.records.first_records.Goals as goal
 
@@ -47,8 +47,8 @@ returns-then-len-from c =
     let items = rw good at c.push.ensures.items in
     let m = rows-more (λ (s : Bor (List ℕ)). Some s.now) c.loop-row.row-iterator.rdr c.next.new.self.rdr (fields_of c.in-Ok.row) default_config st.StartRecord (strip_bom c.args.text.now) inv.4 (map fields_of c.loop-row.rows.items) inv.3 inv.5 inv.6 s.0 in
     let reached : Reached default_config st.StartRecord (strip_bom c.args.text.now) (map fields_of c.push.new.self.items) c.next.new.self.rdr.state m.0 = rw (items, map-append fields_of c.loop-row.rows.items (c.in-Ok.row ∷ [])) m.2 in
-    let long : length (map fields_of c.push.new.self.items) ≡ most_lines Two + 1 = omega (arith, inv.7, c.len.ensures, c.from.ensures, c.if-len-from.true, ap (λ (zs : List Row). length zs) items, length-append c.loop-row.rows.items (c.in-Ok.row ∷ []), length-map c.push.new.self.items fields_of) in
-    sym (first_read default_config (strip_bom c.args.text.now) (map fields_of c.push.new.self.items) c.next.new.self.rdr.state m.0 reached (most_lines Two + 1) long)
+    let long : length (map fields_of c.push.new.self.items) ≡ most_lines Today + 1 = omega (arith, inv.7, c.len.ensures, c.from.ensures, c.if-len-from.true, ap (λ (zs : List Row). length zs) items, length-append c.loop-row.rows.items (c.in-Ok.row ∷ []), length-map c.push.new.self.items fields_of) in
+    sym (first_read default_config (strip_bom c.args.text.now) (map fields_of c.push.new.self.items) c.next.new.self.rdr.state m.0 reached (most_lines Today + 1) long)
 
 pub returns : goal.returns
 returns c =
@@ -56,5 +56,5 @@ returns c =
     let s = rw c.in-None.is at ((c.next.ensures.steps inv.2 inv.0).0 inv.1) in
     let none = rows-end (λ (s : Bor (List ℕ)). Some s.now) c.loop-row.row-iterator.rdr c.next.new.self.rdr [] default_config inv.4 inv.3 inv.5 s in
     let rows = map fields_of c.loop-row.rows.items in
-    let few : length rows ≤ most_lines Two + 1 = omega (arith, inv.7, length-map c.loop-row.rows.items fields_of) in
-    sym (ap (take (most_lines Two + 1)) (all_read default_config (strip_bom c.args.text.now) rows c.loop-row.row-iterator.rdr.state inv.4 inv.6 none) ∙ take_all (most_lines Two + 1) rows few)
+    let few : length rows ≤ most_lines Today + 1 = omega (arith, inv.7, length-map c.loop-row.rows.items fields_of) in
+    sym (ap (take (most_lines Today + 1)) (all_read default_config (strip_bom c.args.text.now) rows c.loop-row.row-iterator.rdr.state inv.4 inv.6 none) ∙ take_all (most_lines Today + 1) rows few)

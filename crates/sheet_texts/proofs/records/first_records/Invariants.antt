@@ -3,8 +3,8 @@ use Rattle.csv.specs.Reading.{Reached, Ready, default_config, source_of, strip_b
 use Rattle.csv.specs.Records.{fields_of}
 use Rattle.csv.specs.declared.parser.State.TheVariants as st
 use Rattle.csv.specs.declared.reader.Trim.TheVariants as trim
-use Rattle.profile.specs.declared.rules.Rules.TheVariants.{Two}
-use Rattle.profile.specs.Limits.{most_lines}
+use Rattle.definitions.specs.Rules.{Today}
+use Rattle.definitions.specs.Limits.{most_lines}
 use Rattle.sheet_texts.proofs.records.first_records.Given as goal
 
 -- the records so far are those that the reader came to, and no more than a sheet may have
@@ -12,4 +12,4 @@ abbrev pub invariant-loop-row : goal.invariant-loop-row
 invariant-loop-row l = (l.row-iterator.rdr.trim ≡ trim.None) × Ready l.row-iterator.rdr × (0 < l.row-iterator.left) × (l.row-iterator.rdr.config ≡ default_config)
     × (y : List ℕ) × (source_of (λ s. Some s.now) l.row-iterator.rdr ≡ Some y)
     × Reached default_config st.StartRecord (strip_bom l.fn.text) (map fields_of l.rows.items) l.row-iterator.rdr.state y
-    × (length l.rows.items ≤ most_lines Two)
+    × (length l.rows.items ≤ most_lines Today)

@@ -2,7 +2,7 @@ use Rattle.std.proofs.Common.{◌≡◌, ◌++◌, drop, map}
 use Rattle.std.specs.Prelude.{is_none}
 use Rattle.std.specs.List.{filter_map, list_any}
 use Rattle.csv.specs.Records.{fields_of}
-use Rattle.profile.specs.Clerk.{raw_line}
+use Rattle.definitions.specs.Clerk.{raw_line}
 use Rattle.sheet_texts.proofs.texts.lines_of.Given as goal
 
 -- the lines so far, and those of the records that are left, are those of all

@@ -1,6 +1,6 @@
 use Rattle.std.proofs.Common.{rules, is_lt}
 use Rattle.std.proofs.lemmas.List.Sorted.{answers_always}
-use Rattle.profile.specs.Clerk.{line_of}
+use Rattle.definitions.specs.Clerk.{line_of}
 use Rattle.sheets.specs.Pairs.{pair_cmp}
 use Rattle.sheets.proofs.Ascending.{ascending_answer}
 use Rattle.sheets.proofs.PairLaws.{before_is}

@@ -1,6 +1,6 @@
 use Rattle.segments.proofs.ExtendsLemmas.{extends_trans}
-use Rattle.profile.specs.Clerk.{line_of}
-use Rattle.profile.specs.Register.{line_text}
+use Rattle.definitions.specs.Clerk.{line_of}
+use Rattle.definitions.specs.Register.{line_text}
 use Rattle.sheets.proofs.Told.{told_more_of, all_told_of}
 use Rattle.sheets.proofs.writing.append_lines.Goals as goal
 

@@ -1,6 +1,6 @@
 use Rattle.std.proofs.Common.{◌≡◌, ◌++◌, flat_map, map, take}
-use Rattle.profile.specs.Clerk.{line_of}
-use Rattle.profile.specs.Register.{line_text}
+use Rattle.definitions.specs.Clerk.{line_of}
+use Rattle.definitions.specs.Register.{line_text}
 use Rattle.segments.specs.Extends.{Extends}
 use Rattle.sheets.proofs.writing.append_lines.Given as goal
 

@@ -1,7 +1,7 @@
 use Rattle.std.proofs.Common.{ℕ, ◌+◌, refl, sym, subst, ◌≡◌, ◌∷◌, [], ◌++◌, List, Bool, cond, ap, ◌∙◌}
 use Rattle.stock.specs.declared.steps.Change.{Change}
 use Rattle.stock.specs.declared.steps.Change.TheVariants.{Document}
-use Rattle.profile.specs.Events.{Acknowledged}
+use Rattle.definitions.specs.Events.{Acknowledged}
 use Rattle.stock.specs.Parts.{all_named}
 use Rattle.stock.specs.Shows.{Shows}
 use Rattle.stock.proofs.PartLemmas.{part_of_self}

@@ -1,6 +1,6 @@
 use Rattle.std.proofs.Common.{sym, ◌∙◌, ap, ℕ}
-use Rattle.profile.specs.Means.{Acknowledgment}
-use Rattle.goods.specs.Steps.{decides}
+use Rattle.definitions.specs.Means.{Acknowledgment}
+use Rattle.page_rows.specs.Steps.{decides}
 use Rattle.stock.proofs.Acknowledges.{decides_none, decides_some}
 use Rattle.stock.proofs.acknowledgments.is_decisive.Goals as goal
 

@@ -2,7 +2,7 @@ use Rattle.std.proofs.Common.{◌≡◌, ◌+◌, ◌-◌, ◌<◌, ◌∷◌, �
 use Rattle.std.specs.Prelude.{sum}
 use Rattle.std.proofs.lemmas.List.{at_drop_all, at_drop_more}
 use Rattle.std.proofs.lemmas.List.Sums.{sum_by_more}
-use Rattle.profile.specs.Allotment.{allot, shares_after}
+use Rattle.definitions.specs.Allotment.{allot, shares_after}
 use Rattle.stock.proofs.allotment.allot.Goals as goal
 
 -- one lot more

@@ -1,6 +1,6 @@
 use Rattle.std.proofs.Common.{◌≡◌, ◌-◌, ◌++◌, take, drop}
 use Rattle.std.specs.Prelude.{sum}
-use Rattle.profile.specs.Allotment.{allot, shares_after}
+use Rattle.definitions.specs.Allotment.{allot, shares_after}
 use Rattle.stock.proofs.allotment.allot.Given as goal
 
 abbrev pub invariant-loop-amount : goal.invariant-loop-amount

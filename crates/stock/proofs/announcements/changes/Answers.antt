@@ -1,18 +1,18 @@
 use Rattle.std.proofs.Common.{◌≡◌, refl, ◌∙◌, ◌∷◌, [], ◌++◌, map, arith, ap, List, length}
 use Rattle.std.proofs.lemmas.List.{length-map}
-use Rattle.profile.specs.Means.{AdviceLine, Line, advised}
-use Rattle.profile.specs.Movements.{Expected}
+use Rattle.definitions.specs.Means.{AdviceLine, Line, advised}
+use Rattle.definitions.specs.Movements.{Expected}
 use Rattle.stock.specs.declared.steps.Change.TheVariants as change
-use Rattle.goods.specs.Moved.{IsAdded, IsDated, IsAdvised}
-use Rattle.goods.specs.Steps.{opened, IsAnnounced}
-use Rattle.goods.specs.OfPairs.{amount, named_by, changed_rows}
+use Rattle.page_rows.specs.Moved.{IsAdded, IsDated, IsAdvised}
+use Rattle.page_rows.specs.Steps.{opened, IsAnnounced}
+use Rattle.page_rows.specs.OfPairs.{amount, named_by, changed_rows}
 use Rattle.stock.specs.Touched.{IsTouched}
 use Rattle.stock.proofs.Announces.{advised_fits, announced_sound}
 use Rattle.stock.proofs.Dated.{advised_made}
 use Rattle.stock.proofs.Leads.{touched_less}
 use Rattle.stock.specs.Parts.{all_named, Named, IsPart, NamesAdvice}
 use Rattle.stock.proofs.PartLemmas.{announced_whole, part_of_self, all_items}
-use Rattle.goods.specs.Pages.{PageFacts}
+use Rattle.page_rows.specs.Pages.{PageFacts}
 use Rattle.stock.specs.Puts.{put}
 use Rattle.stock.specs.Stops.{advice_changes}
 use Rattle.stock.proofs.announcements.changes.Goals as goal

@@ -3,8 +3,8 @@ use Rattle.std.proofs.lemmas.List.{map-append, take_all}
 use Rattle.std.proofs.lemmas.List.Elements.{filter_more}
 use Rattle.std.specs.Prelude.{filter}
 use Rattle.std.specs.List.{list_any}
-use Rattle.profile.specs.Rows.{LotRow}
-use Rattle.goods.specs.OfPairs.{changed_rows, same_row}
+use Rattle.definitions.specs.Rows.{LotRow}
+use Rattle.page_rows.specs.OfPairs.{changed_rows, same_row}
 use Rattle.stock.specs.declared.steps.Change.TheVariants.{Stock}
 use Rattle.stock.proofs.changes.row_changes.Goals as goal
 use Rattle.stock.proofs.changes.row_changes.Goals.{then-not-has_row+in_ok-copy+in_ok-push, else-not-has_row}

@@ -1,5 +1,5 @@
 use Rattle.std.proofs.Common.{◌≡◌, take, map}
-use Rattle.goods.specs.OfPairs.{changed_rows}
+use Rattle.page_rows.specs.OfPairs.{changed_rows}
 use Rattle.stock.specs.declared.steps.Change.TheVariants.{Stock}
 use Rattle.stock.proofs.changes.row_changes.Given as goal
 

@@ -1,6 +1,6 @@
 use Rattle.std.proofs.Common.{◌++◌, ◌∷◌, [], map, take, ap, sym, ◌∙◌}
 use Rattle.std.proofs.lemmas.List.{map_more, take_all}
-use Rattle.profile.specs.Means.{AdviceLine, Line}
+use Rattle.definitions.specs.Means.{AdviceLine, Line}
 use Rattle.stock.proofs.copies.advised.Goals as goal
 
 pub loop-line-preserved : goal.loop-line-preserved

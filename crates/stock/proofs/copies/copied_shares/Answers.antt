@@ -3,7 +3,7 @@ use Rattle.std.specs.Prelude.{filter, nat_lt}
 use Rattle.std.proofs.lemmas.Bool.{lt-ltb}
 use Rattle.std.proofs.lemmas.List.{take_all}
 use Rattle.std.proofs.lemmas.List.Elements.{filter_more}
-use Rattle.profile.specs.Means.{Line}
+use Rattle.definitions.specs.Means.{Line}
 use Rattle.stock.proofs.copies.copied_shares.Goals as goal
 use Rattle.stock.proofs.copies.copied_shares.Goals.{then-share-gt0+in_ok-copied+in_ok-push, else-share-gt0}
 

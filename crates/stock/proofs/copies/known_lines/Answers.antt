@@ -1,7 +1,7 @@
 use Rattle.std.proofs.Common.{◌++◌, ◌∷◌, [], map, take, ap, sym, ◌∙◌}
 use Rattle.std.proofs.lemmas.List.{map_more, take_all}
-use Rattle.profile.specs.Means.{OrderLine}
-use Rattle.profile.specs.Page.{page_line}
+use Rattle.definitions.specs.Means.{OrderLine}
+use Rattle.definitions.specs.Page.{page_line}
 use Rattle.stock.proofs.copies.known_lines.Goals as goal
 
 pub loop-line-preserved : goal.loop-line-preserved

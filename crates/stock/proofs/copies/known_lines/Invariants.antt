@@ -1,5 +1,5 @@
 use Rattle.std.proofs.Common.{◌≡◌, take, map}
-use Rattle.profile.specs.Page.{page_line}
+use Rattle.definitions.specs.Page.{page_line}
 use Rattle.stock.proofs.copies.known_lines.Given as goal
 
 abbrev pub invariant-loop-line : goal.invariant-loop-line

@@ -1,5 +1,5 @@
 use Rattle.std.proofs.Common.{arith, ap}
-use Rattle.profile.specs.Means.{AdviceLine, Line}
+use Rattle.definitions.specs.Means.{AdviceLine, Line}
 use Rattle.stock.proofs.Moves.{total_fits}
 use Rattle.stock.proofs.faults.advice_total.Goals as goal
 

@@ -1,5 +1,5 @@
 use Rattle.std.proofs.Common.{arith, ap}
-use Rattle.profile.specs.Means.{OrderLine}
+use Rattle.definitions.specs.Means.{OrderLine}
 use Rattle.stock.proofs.Moves.{order_fits}
 use Rattle.stock.proofs.faults.order_total.Goals as goal
 

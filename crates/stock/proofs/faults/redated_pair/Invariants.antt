@@ -1,7 +1,7 @@
 use Rattle.std.proofs.Common.{◌≡◌, drop}
 use Rattle.std.specs.Prelude.{find}
-use Rattle.profile.specs.Events.{is_redated}
-use Rattle.goods.specs.OfPairs.{date_of_pair}
+use Rattle.definitions.specs.Events.{is_redated}
+use Rattle.page_rows.specs.OfPairs.{date_of_pair}
 use Rattle.stock.proofs.faults.redated_pair.Given as goal
 
 abbrev pub invariant-loop-line : goal.invariant-loop-line

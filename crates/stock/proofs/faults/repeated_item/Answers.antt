@@ -1,8 +1,8 @@
 use Rattle.std.proofs.Common.{map, take, Some, ap, sym, ◌∙◌, subst}
 use Rattle.std.specs.Prelude.{option_map}
-use Rattle.profile.specs.Means.{Line, OrderLine}
-use Rattle.profile.specs.Events.{same_order_item}
-use Rattle.goods.specs.Moved.{IsPlaced}
+use Rattle.definitions.specs.Means.{Line, OrderLine}
+use Rattle.definitions.specs.Events.{same_order_item}
+use Rattle.page_rows.specs.Moved.{IsPlaced}
 use Rattle.stock.proofs.Repeats.{item_line, items_alike, stood_again, stood_more}
 use Rattle.stock.proofs.faults.repeated_item.Goals as goal
 

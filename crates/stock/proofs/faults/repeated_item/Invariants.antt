@@ -1,4 +1,4 @@
-use Rattle.profile.specs.Events.{same_order_item}
+use Rattle.definitions.specs.Events.{same_order_item}
 use Rattle.stock.proofs.Repeats.{HaveStood, item_line}
 use Rattle.stock.proofs.faults.repeated_item.Given as goal
 

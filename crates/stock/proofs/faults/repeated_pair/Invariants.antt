@@ -1,5 +1,5 @@
-use Rattle.profile.specs.Means.{AdviceLine}
-use Rattle.profile.specs.Events.{same_advice_pair}
+use Rattle.definitions.specs.Means.{AdviceLine}
+use Rattle.definitions.specs.Events.{same_advice_pair}
 use Rattle.stock.proofs.Repeats.{HaveStood}
 use Rattle.stock.proofs.faults.repeated_pair.Given as goal
 

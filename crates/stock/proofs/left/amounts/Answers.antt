@@ -1,8 +1,8 @@
 use Rattle.std.proofs.Common.{ℕ, List, ◌++◌, ◌∷◌, [], map, take, ap, sym, ◌∙◌}
 use Rattle.std.proofs.lemmas.List.{map_more, take_all}
-use Rattle.profile.specs.Rows.{LotRow}
-use Rattle.goods.specs.Columns.{column_of}
-use Rattle.goods.specs.OfPairs.{amount}
+use Rattle.definitions.specs.Rows.{LotRow}
+use Rattle.page_rows.specs.Columns.{column_of}
+use Rattle.page_rows.specs.OfPairs.{amount}
 use Rattle.stock.proofs.left.amounts.Goals as goal
 
 pub loop-row-preserved : goal.loop-row-preserved

@@ -1,6 +1,6 @@
 use Rattle.std.proofs.Common.{◌≡◌, take, map}
-use Rattle.goods.specs.Columns.{column_of}
-use Rattle.goods.specs.OfPairs.{amount}
+use Rattle.page_rows.specs.Columns.{column_of}
+use Rattle.page_rows.specs.OfPairs.{amount}
 use Rattle.stock.proofs.left.amounts.Given as goal
 
 -- the amounts of the rows so far

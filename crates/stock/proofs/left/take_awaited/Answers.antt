@@ -1,9 +1,9 @@
 use Rattle.std.proofs.Common.{sym, List, subst, true}
-use Rattle.profile.specs.Page.{PageAdvice}
+use Rattle.definitions.specs.Page.{PageAdvice}
 use Rattle.stock.proofs.Lefts.{open_end, open_more, open_none}
 use Rattle.std.proofs.lemmas.List.{take_all}
 use Rattle.stock.specs.Left.{IsLess}
-use Rattle.goods.specs.Pages.{awaited}
+use Rattle.page_rows.specs.Pages.{awaited}
 use Rattle.stock.proofs.left.take_awaited.Goals as goal
 use Rattle.stock.proofs.left.take_awaited.Goals.{else-is_open-via-then-is_open+else-not-take_lines, else-is_open-via-else-is_open}
 

@@ -1,6 +1,6 @@
 use Rattle.std.proofs.Common.{take, true}
 use Rattle.stock.specs.Left.{IsLess}
-use Rattle.goods.specs.Pages.{awaited}
+use Rattle.page_rows.specs.Pages.{awaited}
 use Rattle.stock.proofs.left.take_awaited.Given as goal
 
 -- what the advices so far bring was taken

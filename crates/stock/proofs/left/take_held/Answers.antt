@@ -1,9 +1,9 @@
 use Rattle.std.proofs.Common.{ap, sym, ◌∙◌, List, subst, true}
-use Rattle.profile.specs.Page.{PageOrder}
+use Rattle.definitions.specs.Page.{PageOrder}
 use Rattle.stock.proofs.Lefts.{open_end, open_more, open_none}
 use Rattle.std.proofs.lemmas.List.{take_all}
 use Rattle.stock.specs.Left.{IsLess}
-use Rattle.goods.specs.Pages.{held}
+use Rattle.page_rows.specs.Pages.{held}
 use Rattle.stock.proofs.left.take_held.Goals as goal
 use Rattle.stock.proofs.left.take_held.Goals.{else-order-via-then-order+else-not-take_lines, else-order-via-else-order}
 

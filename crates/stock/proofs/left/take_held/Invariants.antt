@@ -1,6 +1,6 @@
 use Rattle.std.proofs.Common.{take, true}
 use Rattle.stock.specs.Left.{IsLess}
-use Rattle.goods.specs.Pages.{held}
+use Rattle.page_rows.specs.Pages.{held}
 use Rattle.stock.proofs.left.take_held.Given as goal
 
 -- what the orders so far hold was taken

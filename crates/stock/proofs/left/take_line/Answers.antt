@@ -1,5 +1,5 @@
 use Rattle.std.proofs.Common.{ap, arith, eqb}
-use Rattle.profile.specs.Means.{Line}
+use Rattle.definitions.specs.Means.{Line}
 use Rattle.stock.proofs.Lefts.{less_none, less_short, less_taken}
 use Rattle.stock.proofs.left.take_line.Goals as goal
 

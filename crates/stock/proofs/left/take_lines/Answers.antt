@@ -1,8 +1,8 @@
 use Rattle.std.proofs.Common.{take, ◌+◌, ◌∷◌, [], List, subst, true}
-use Rattle.profile.specs.Events.{quantity_of}
+use Rattle.definitions.specs.Events.{quantity_of}
 use Rattle.stock.proofs.Lefts.{less_end, less_more, line_least, line_next}
 use Rattle.std.proofs.lemmas.List.{take_all}
-use Rattle.profile.specs.Means.{Line}
+use Rattle.definitions.specs.Means.{Line}
 use Rattle.stock.specs.Left.{IsLess}
 use Rattle.stock.proofs.left.take_lines.Goals as goal
 

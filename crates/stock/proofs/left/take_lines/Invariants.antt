@@ -1,5 +1,5 @@
 use Rattle.std.proofs.Common.{take, true}
-use Rattle.profile.specs.Events.{quantity_of}
+use Rattle.definitions.specs.Events.{quantity_of}
 use Rattle.stock.specs.Left.{IsLess}
 use Rattle.stock.proofs.left.take_lines.Given as goal
 

@@ -1,16 +1,16 @@
 use Rattle.std.proofs.Common.{◌≡◌, ◌∙◌, ◌∷◌, [], ◌++◌, ◌+◌, ◌≤◌, ℕ, List, map, arith, ap}
-use Rattle.profile.specs.Events.{quantity_of}
-use Rattle.profile.specs.Page.{PageOrder}
-use Rattle.profile.specs.Movements.{OnHand, Reservation, Shipped}
-use Rattle.goods.specs.declared.documents.Function.TheVariants.{Shipment}
+use Rattle.definitions.specs.Events.{quantity_of}
+use Rattle.definitions.specs.Page.{PageOrder}
+use Rattle.definitions.specs.Movements.{OnHand, Reservation, Shipped}
+use Rattle.page_rows.specs.declared.documents.Function.TheVariants.{Shipment}
 use Rattle.stock.specs.declared.steps.Change.{Change}
 use Rattle.stock.specs.declared.steps.Change.TheVariants as change
-use Rattle.goods.specs.Moved.{IsShipped}
-use Rattle.goods.specs.Steps.{closed_order}
-use Rattle.goods.specs.OfPairs.{of_pair, amount, changed_rows}
+use Rattle.page_rows.specs.Moved.{IsShipped}
+use Rattle.page_rows.specs.Steps.{closed_order}
+use Rattle.page_rows.specs.OfPairs.{of_pair, amount, changed_rows}
 use Rattle.stock.specs.Touched.{IsTouched}
 use Rattle.stock.proofs.Leads.{among_first, among_second, touched_less, touched_there}
-use Rattle.goods.proofs.Pairs.{sheet_facts}
+use Rattle.page_rows.proofs.Pairs.{sheet_facts}
 use Rattle.stock.proofs.Ships.{held_there, within_reserved, picked_sound}
 use Rattle.stock.specs.Parts.{all_named}
 use Rattle.stock.proofs.PartLemmas.{picked_whole, part_of_self, all_items}

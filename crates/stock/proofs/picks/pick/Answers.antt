@@ -1,15 +1,15 @@
 use Rattle.std.proofs.Common.{Some, ℕ, ◌≡◌, ◌∙◌, ◌++◌, ◌∷◌, [], ◌+◌, List, ℕ, sym, ap, true, false}
 use Rattle.std.proofs.lemmas.Slice.Eq.{bytes_eq-Decides}
 use Rattle.std.specs.List.{list_any}
-use Rattle.profile.specs.Events.{Picked}
-use Rattle.profile.specs.Page.{PageOrder}
-use Rattle.goods.specs.declared.documents.Function.TheVariants.{Shipment}
+use Rattle.definitions.specs.Events.{Picked}
+use Rattle.definitions.specs.Page.{PageOrder}
+use Rattle.page_rows.specs.declared.documents.Function.TheVariants.{Shipment}
 use Rattle.stock.specs.declared.steps.Change.TheVariants.{Sent}
-use Rattle.goods.specs.Pages.{order_at, is_number}
+use Rattle.page_rows.specs.Pages.{order_at, is_number}
 use Rattle.stock.specs.Puts.{put}
-use Rattle.goods.specs.Steps.{exceeds}
+use Rattle.page_rows.specs.Steps.{exceeds}
 use Rattle.stock.specs.Stops.{order_changes}
-use Rattle.goods.proofs.Finds.{found_says}
+use Rattle.page_rows.proofs.Finds.{found_says}
 use Rattle.stock.proofs.Ships.{held_fits, order_known, picked_shows, picked_unknown, picked_closed, picked_excess, picked_ok}
 use Rattle.stock.proofs.picks.pick.Goals as goal
 

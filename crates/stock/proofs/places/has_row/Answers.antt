@@ -1,5 +1,5 @@
 use Rattle.std.proofs.Common.{◌≡◌, sym, ◌∙◌, ap}
-use Rattle.profile.specs.Rows.{LotRow}
+use Rattle.definitions.specs.Rows.{LotRow}
 use Rattle.stock.proofs.ChangeLaws.{absent_row, same_lookup}
 use Rattle.stock.proofs.places.has_row.Goals as goal
 

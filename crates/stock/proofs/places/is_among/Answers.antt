@@ -1,5 +1,5 @@
 use Rattle.std.proofs.Common.{sym, []}
-use Rattle.goods.specs.OfPairs.{blank}
+use Rattle.page_rows.specs.OfPairs.{blank}
 use Rattle.stock.proofs.Repeats.{none_among, one_among}
 use Rattle.stock.proofs.places.is_among.Goals as goal
 

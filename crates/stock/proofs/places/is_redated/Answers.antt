@@ -1,7 +1,7 @@
 use Rattle.std.proofs.Common.{◌∙◌, ap, sym, ℕ, List, Option}
-use Rattle.profile.specs.Events.{is_other_date}
-use Rattle.profile.specs.Means.{Line, AdviceLine}
-use Rattle.goods.proofs.Dates.{date_absent, date_place}
+use Rattle.definitions.specs.Events.{is_other_date}
+use Rattle.definitions.specs.Means.{Line, AdviceLine}
+use Rattle.page_rows.proofs.Dates.{date_absent, date_place}
 use Rattle.stock.proofs.places.is_redated.Goals as goal
 
 pub returns-in-None : goal.returns-in-None

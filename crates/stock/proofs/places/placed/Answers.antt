@@ -1,8 +1,8 @@
 use Rattle.std.proofs.Common.{◌≡◌, ap}
 use Rattle.std.specs.List.{insert}
-use Rattle.profile.specs.Means.{Line}
-use Rattle.goods.specs.OfPairs.{blank}
-use Rattle.goods.proofs.OfPairLemmas.{placed_there, placed_new}
+use Rattle.definitions.specs.Means.{Line}
+use Rattle.page_rows.specs.OfPairs.{blank}
+use Rattle.page_rows.proofs.OfPairLemmas.{placed_there, placed_new}
 use Rattle.stock.proofs.places.placed.Goals as goal
 
 pub returns-in-Some : goal.returns-in-Some

@@ -1,6 +1,6 @@
 use Rattle.std.proofs.Common.{◌≡◌, ◌∙◌, ap}
-use Rattle.profile.specs.Rows.{LotRow}
-use Rattle.goods.proofs.KeyLemmas.{row_set, row_insert}
+use Rattle.definitions.specs.Rows.{LotRow}
+use Rattle.page_rows.proofs.KeyLemmas.{row_set, row_insert}
 use Rattle.stock.proofs.places.put_row.Goals as goal
 
 pub returns-in-Some : goal.returns-in-Some

@@ -1,7 +1,7 @@
 use Rattle.std.proofs.Common.{◌≡◌, ◌∙◌, ap}
-use Rattle.profile.specs.Means.{Line}
-use Rattle.profile.specs.Rows.{LotRow}
-use Rattle.goods.specs.Keyed.{put_row}
+use Rattle.definitions.specs.Means.{Line}
+use Rattle.definitions.specs.Rows.{LotRow}
+use Rattle.page_rows.specs.Keyed.{put_row}
 use Rattle.stock.proofs.Leads.{touched_by, touched_by_none}
 use Rattle.stock.proofs.places.touch.Goals as goal
 

@@ -1,7 +1,7 @@
 use Rattle.stock.proofs.Leads.{touched_more}
 use Rattle.std.proofs.Common.{List, subst}
 use Rattle.std.proofs.lemmas.List.{take_all}
-use Rattle.profile.specs.Means.{Line}
+use Rattle.definitions.specs.Means.{Line}
 use Rattle.stock.specs.Touched.{IsTouched}
 use Rattle.stock.proofs.places.touched.Goals as goal
 

@@ -1,8 +1,8 @@
 use Rattle.std.proofs.Common.{arith, ap}
-use Rattle.profile.specs.Means.{Line}
-use Rattle.goods.specs.OfPairs.{amount}
-use Rattle.goods.specs.Columns.{column_of}
-use Rattle.goods.proofs.OfPairLemmas.{added_at, amount_here}
+use Rattle.definitions.specs.Means.{Line}
+use Rattle.page_rows.specs.OfPairs.{amount}
+use Rattle.page_rows.specs.Columns.{column_of}
+use Rattle.page_rows.proofs.OfPairLemmas.{added_at, amount_here}
 use Rattle.stock.proofs.postings.add_line.Goals as goal
 
 pub add-requires : goal.add-requires

@@ -1,9 +1,9 @@
 use Rattle.std.proofs.Common.{List, subst}
 use Rattle.std.proofs.lemmas.List.{take_all}
-use Rattle.profile.specs.Means.{Line}
-use Rattle.goods.specs.Columns.{column_of}
-use Rattle.goods.proofs.Sums.{added_more, next_fits}
-use Rattle.goods.specs.Moved.{IsAdded}
+use Rattle.definitions.specs.Means.{Line}
+use Rattle.page_rows.specs.Columns.{column_of}
+use Rattle.page_rows.proofs.Sums.{added_more, next_fits}
+use Rattle.page_rows.specs.Moved.{IsAdded}
 use Rattle.stock.proofs.postings.add_lines.Goals as goal
 
 pub add_line-requires-clause-fits : goal.add_line-requires-clause-fits

@@ -1,5 +1,5 @@
 use Rattle.std.proofs.Common.{ap}
-use Rattle.profile.specs.Means.{Line, AdviceLine}
+use Rattle.definitions.specs.Means.{Line, AdviceLine}
 use Rattle.stock.proofs.Dated.{dated_at}
 use Rattle.stock.proofs.postings.date_line.Goals as goal
 

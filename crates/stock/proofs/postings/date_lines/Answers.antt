@@ -1,8 +1,8 @@
 use Rattle.std.proofs.Common.{List, subst}
 use Rattle.std.proofs.lemmas.List.{take_all}
-use Rattle.profile.specs.Means.{AdviceLine}
+use Rattle.definitions.specs.Means.{AdviceLine}
 use Rattle.stock.proofs.Dated.{dated_more, next_dated}
-use Rattle.goods.specs.Moved.{IsDated}
+use Rattle.page_rows.specs.Moved.{IsDated}
 use Rattle.stock.proofs.postings.date_lines.Goals as goal
 
 pub date_line-requires-clause-there : goal.date_line-requires-clause-there

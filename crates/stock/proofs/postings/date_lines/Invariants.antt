@@ -1,5 +1,5 @@
 use Rattle.std.proofs.Common.{take}
-use Rattle.goods.specs.Moved.{IsDated}
+use Rattle.page_rows.specs.Moved.{IsDated}
 use Rattle.stock.proofs.postings.date_lines.Given as goal
 
 abbrev pub invariant-loop-line : goal.invariant-loop-line

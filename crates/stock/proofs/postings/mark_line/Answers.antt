@@ -1,5 +1,5 @@
 use Rattle.std.proofs.Common.{ap}
-use Rattle.profile.specs.Means.{Line}
+use Rattle.definitions.specs.Means.{Line}
 use Rattle.stock.proofs.Marks.{marked_at}
 use Rattle.stock.proofs.postings.mark_line.Goals as goal
 

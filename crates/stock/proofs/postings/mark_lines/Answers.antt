@@ -1,8 +1,8 @@
 use Rattle.std.proofs.Common.{List, subst}
 use Rattle.std.proofs.lemmas.List.{take_all}
-use Rattle.profile.specs.Means.{Line}
+use Rattle.definitions.specs.Means.{Line}
 use Rattle.stock.proofs.Marks.{marked_more, next_named}
-use Rattle.goods.specs.Moved.{IsMarked}
+use Rattle.page_rows.specs.Moved.{IsMarked}
 use Rattle.stock.proofs.postings.mark_lines.Goals as goal
 
 pub mark_line-requires-clause-there : goal.mark_line-requires-clause-there

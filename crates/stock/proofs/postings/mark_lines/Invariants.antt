@@ -1,5 +1,5 @@
 use Rattle.std.proofs.Common.{take}
-use Rattle.goods.specs.Moved.{IsMarked}
+use Rattle.page_rows.specs.Moved.{IsMarked}
 use Rattle.stock.proofs.postings.mark_lines.Given as goal
 
 abbrev pub invariant-loop-line : goal.invariant-loop-line

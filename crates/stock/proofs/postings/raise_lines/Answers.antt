@@ -1,8 +1,8 @@
 use Rattle.std.proofs.Common.{List, subst}
 use Rattle.std.proofs.lemmas.List.{take_all}
-use Rattle.profile.specs.Means.{Line}
-use Rattle.goods.specs.Columns.{column_of}
-use Rattle.goods.specs.Moved.{IsRaised}
+use Rattle.definitions.specs.Means.{Line}
+use Rattle.page_rows.specs.Columns.{column_of}
+use Rattle.page_rows.specs.Moved.{IsRaised}
 use Rattle.stock.proofs.Raises.{raised_more, next_raised_fits, next_raised_there}
 use Rattle.stock.proofs.postings.raise_lines.Goals as goal
 

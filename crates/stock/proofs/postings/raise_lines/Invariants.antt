@@ -1,6 +1,6 @@
 use Rattle.std.proofs.Common.{take}
-use Rattle.goods.specs.Moved.{IsRaised}
-use Rattle.goods.specs.Columns.{column_of}
+use Rattle.page_rows.specs.Moved.{IsRaised}
+use Rattle.page_rows.specs.Columns.{column_of}
 use Rattle.stock.proofs.postings.raise_lines.Given as goal
 
 abbrev pub invariant-loop-line : goal.invariant-loop-line

@@ -1,5 +1,5 @@
 use Rattle.std.proofs.Common.{ap}
-use Rattle.profile.specs.Means.{Line}
+use Rattle.definitions.specs.Means.{Line}
 use Rattle.stock.proofs.Raises.{set_at}
 use Rattle.stock.proofs.postings.set_line.Goals as goal
 

@@ -1,8 +1,8 @@
 use Rattle.std.proofs.Common.{List, subst}
 use Rattle.std.proofs.lemmas.List.{take_all}
-use Rattle.profile.specs.Means.{Line}
+use Rattle.definitions.specs.Means.{Line}
 use Rattle.stock.proofs.Raises.{set_more, next_set}
-use Rattle.goods.specs.Moved.{SetsOnHand}
+use Rattle.page_rows.specs.Moved.{SetsOnHand}
 use Rattle.stock.proofs.postings.set_lines.Goals as goal
 
 pub set_line-requires-clause-there : goal.set_line-requires-clause-there

@@ -1,5 +1,5 @@
 use Rattle.std.proofs.Common.{take}
-use Rattle.goods.specs.Moved.{SetsOnHand}
+use Rattle.page_rows.specs.Moved.{SetsOnHand}
 use Rattle.stock.proofs.postings.set_lines.Given as goal
 
 abbrev pub invariant-loop-line : goal.invariant-loop-line

@@ -1,9 +1,9 @@
 use Rattle.std.proofs.Common.{List, subst}
 use Rattle.std.proofs.lemmas.List.{take_all}
-use Rattle.profile.specs.Means.{Line}
-use Rattle.goods.specs.Columns.{column_of}
-use Rattle.goods.proofs.Sums.{taken_more, next_there}
-use Rattle.goods.specs.Moved.{IsTaken}
+use Rattle.definitions.specs.Means.{Line}
+use Rattle.page_rows.specs.Columns.{column_of}
+use Rattle.page_rows.proofs.Sums.{taken_more, next_there}
+use Rattle.page_rows.specs.Moved.{IsTaken}
 use Rattle.stock.proofs.postings.take_lines.Goals as goal
 
 pub take_line-requires-clause-there : goal.take_line-requires-clause-there

@@ -1,6 +1,6 @@
 use Rattle.std.proofs.Common.{take}
-use Rattle.goods.specs.Moved.{IsTaken}
-use Rattle.goods.specs.Columns.{column_of}
+use Rattle.page_rows.specs.Moved.{IsTaken}
+use Rattle.page_rows.specs.Columns.{column_of}
 use Rattle.stock.proofs.postings.take_lines.Given as goal
 
 abbrev pub invariant-loop-line : goal.invariant-loop-line

@@ -1,12 +1,12 @@
 use Rattle.std.proofs.Common.{Some, ◌≡◌, ◌∙◌, ◌++◌, ◌∷◌, [], ◌+◌, List, ℕ, sym, ap}
 use Rattle.std.proofs.lemmas.Slice.Eq.{bytes_eq-Decides}
-use Rattle.profile.specs.Events.{Counted}
-use Rattle.goods.specs.declared.documents.Function.TheVariants.{Receipt}
+use Rattle.definitions.specs.Events.{Counted}
+use Rattle.page_rows.specs.declared.documents.Function.TheVariants.{Receipt}
 use Rattle.stock.specs.declared.steps.Change.TheVariants.{Sent}
-use Rattle.goods.specs.Pages.{advice_at, is_shipment}
+use Rattle.page_rows.specs.Pages.{advice_at, is_shipment}
 use Rattle.stock.specs.Puts.{put}
 use Rattle.stock.specs.Stops.{advice_changes}
-use Rattle.goods.proofs.Finds.{found_says}
+use Rattle.page_rows.proofs.Finds.{found_says}
 use Rattle.stock.proofs.Receives.{advice_known, received_shows, counted_unknown, counted_closed, counted_ok}
 use Rattle.stock.proofs.receipts.receive.Goals as goal
 

@@ -1,19 +1,19 @@
 use Rattle.std.proofs.Common.{List, true, refl, ◌≡◌, ◌∙◌, ◌∷◌, [], ◌++◌, map, arith, sym, subst}
-use Rattle.profile.specs.Movements.{Reservation}
-use Rattle.profile.specs.Page.{reserved_lines}
+use Rattle.definitions.specs.Movements.{Reservation}
+use Rattle.definitions.specs.Page.{reserved_lines}
 use Rattle.stock.specs.declared.steps.Change.TheVariants as change
-use Rattle.goods.specs.Moved.{IsAdded}
-use Rattle.goods.specs.Steps.{opened_order, IsReserved}
-use Rattle.goods.specs.OfPairs.{amount, changed_rows}
+use Rattle.page_rows.specs.Moved.{IsAdded}
+use Rattle.page_rows.specs.Steps.{opened_order, IsReserved}
+use Rattle.page_rows.specs.OfPairs.{amount, changed_rows}
 use Rattle.stock.specs.Touched.{IsTouched}
 use Rattle.stock.proofs.Allots.{IsAllotted, allotted}
 use Rattle.stock.proofs.Leads.{touched_less}
 use Rattle.stock.proofs.Reserves.{reserved_fits, reserved_sound}
-use Rattle.profile.specs.Means.{Line}
+use Rattle.definitions.specs.Means.{Line}
 use Rattle.stock.specs.Parts.{all_named, are_items, Named, IsPart, NamesOrder}
 use Rattle.stock.proofs.PartLemmas.{reserved_whole, part_of_self, all_ordered}
 use Rattle.stock.proofs.PartShares.{opened_in_lines, reserved_items}
-use Rattle.goods.specs.Pages.{is_in_lines, PageFacts}
+use Rattle.page_rows.specs.Pages.{is_in_lines, PageFacts}
 use Rattle.stock.specs.Puts.{put}
 use Rattle.stock.specs.Stops.{order_changes}
 use Rattle.stock.proofs.reservations.changes.Goals as goal

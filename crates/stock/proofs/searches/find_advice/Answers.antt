@@ -1,9 +1,9 @@
 use Rattle.std.proofs.Common.{rules}
 use Rattle.std.proofs.lemmas.Fn.{always_returns_same}
-use Rattle.profile.specs.Bytes.{comes_before}
-use Rattle.goods.specs.Keyed.{shipment_of, text_order}
-use Rattle.goods.specs.Pages.{is_shipment}
-use Rattle.goods.proofs.KeyLemmas.{texts_strict, shipment_test}
+use Rattle.definitions.specs.Bytes.{comes_before}
+use Rattle.page_rows.specs.Keyed.{shipment_of, text_order}
+use Rattle.page_rows.specs.Pages.{is_shipment}
+use Rattle.page_rows.proofs.KeyLemmas.{texts_strict, shipment_test}
 use Rattle.stock.proofs.FoundByKey.{searched, texts_told}
 use Rattle.stock.proofs.searches.find_advice.Goals as goal
 

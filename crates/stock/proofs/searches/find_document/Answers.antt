@@ -2,9 +2,9 @@ use Rattle.std.proofs.Common.{rules}
 use Rattle.std.proofs.lemmas.Fn.{always_returns_same}
 use Rattle.std.specs.Ordering.{nat_cmp}
 use Rattle.std.specs.Prelude.{nat_lt}
-use Rattle.goods.specs.Keyed.{entry_of}
-use Rattle.goods.specs.Pages.{is_document}
-use Rattle.goods.proofs.KeyLemmas.{numbers_strict, document_test}
+use Rattle.page_rows.specs.Keyed.{entry_of}
+use Rattle.page_rows.specs.Pages.{is_document}
+use Rattle.page_rows.proofs.KeyLemmas.{numbers_strict, document_test}
 use Rattle.stock.proofs.FoundByKey.{searched, numbers_told}
 use Rattle.stock.proofs.searches.find_document.Goals as goal
 

@@ -1,9 +1,9 @@
 use Rattle.std.proofs.Common.{◌∙◌}
 use Rattle.std.proofs.lemmas.Result.{on_ok_weaker}
-use Rattle.profile.specs.Bytes.{comes_before}
-use Rattle.goods.specs.Keyed.{shipment_of}
-use Rattle.goods.specs.Pages.{is_shipment}
-use Rattle.goods.proofs.KeyLemmas.{texts_strict, shipment_test}
+use Rattle.definitions.specs.Bytes.{comes_before}
+use Rattle.page_rows.specs.Keyed.{shipment_of}
+use Rattle.page_rows.specs.Pages.{is_shipment}
+use Rattle.page_rows.proofs.KeyLemmas.{texts_strict, shipment_test}
 use Rattle.stock.proofs.FoundByKey.{found_within, put_found}
 use Rattle.stock.proofs.searches.put_advice.Goals as goal
 

@@ -1,10 +1,10 @@
 use Rattle.std.proofs.Common.{◌∙◌, ap}
 use Rattle.std.proofs.lemmas.Result.{on_ok_weaker}
 use Rattle.std.specs.Prelude.{nat_lt}
-use Rattle.profile.specs.Page.{PageDocument}
-use Rattle.goods.specs.Keyed.{entry_of}
-use Rattle.goods.specs.Pages.{is_document}
-use Rattle.goods.proofs.KeyLemmas.{numbers_strict, document_test}
+use Rattle.definitions.specs.Page.{PageDocument}
+use Rattle.page_rows.specs.Keyed.{entry_of}
+use Rattle.page_rows.specs.Pages.{is_document}
+use Rattle.page_rows.proofs.KeyLemmas.{numbers_strict, document_test}
 use Rattle.stock.proofs.FoundByKey.{found_within, put_found}
 use Rattle.stock.proofs.searches.put_document.Goals as goal
 

@@ -1,10 +1,10 @@
 use Rattle.std.proofs.Common.{◌∙◌, ap}
 use Rattle.std.proofs.lemmas.Result.{on_ok_weaker}
-use Rattle.profile.specs.Bytes.{comes_before}
-use Rattle.profile.specs.Page.{PageOrder}
-use Rattle.goods.specs.Keyed.{number_of}
-use Rattle.goods.specs.Pages.{is_number}
-use Rattle.goods.proofs.KeyLemmas.{texts_strict, number_test}
+use Rattle.definitions.specs.Bytes.{comes_before}
+use Rattle.definitions.specs.Page.{PageOrder}
+use Rattle.page_rows.specs.Keyed.{number_of}
+use Rattle.page_rows.specs.Pages.{is_number}
+use Rattle.page_rows.proofs.KeyLemmas.{texts_strict, number_test}
 use Rattle.stock.proofs.FoundByKey.{found_within, put_found}
 use Rattle.stock.proofs.searches.put_order.Goals as goal
 

@@ -1,5 +1,5 @@
 use Rattle.std.proofs.Common.{◌∙◌, ap, set}
-use Rattle.goods.proofs.KeyLemmas.{said_set}
+use Rattle.page_rows.proofs.KeyLemmas.{said_set}
 use Rattle.stock.proofs.searches.put_said.Goals as goal
 
 pub returns-in-Ok : goal.returns-in-Ok

@@ -1,6 +1,6 @@
 use Rattle.std.proofs.Common.{◌∙◌}
-use Rattle.goods.specs.Functions.{function_text}
-use Rattle.goods.proofs.KeyLemmas.{sent_there, sent_insert}
+use Rattle.page_rows.specs.Functions.{function_text}
+use Rattle.page_rows.proofs.KeyLemmas.{sent_there, sent_insert}
 use Rattle.stock.proofs.searches.send.Goals as goal
 
 pub returns-in_default : goal.returns-in_default

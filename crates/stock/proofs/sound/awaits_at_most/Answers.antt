@@ -2,8 +2,8 @@ use Rattle.std.proofs.Common.{◌≡◌, ◌+◌, ◌∙◌, ℕ, List, true, ap
 use Rattle.std.proofs.lemmas.Bool.{le-leb}
 use Rattle.std.proofs.lemmas.List.{take_all}
 use Rattle.std.specs.Prelude.{nat_le}
-use Rattle.profile.specs.Page.{PageAdvice}
-use Rattle.goods.specs.Pages.{awaited}
+use Rattle.definitions.specs.Page.{PageAdvice}
+use Rattle.page_rows.specs.Pages.{awaited}
 use Rattle.stock.proofs.sound.awaits_at_most.Goals as goal
 
 within : (left taken most : ℕ) → left + taken ≡ most → true ≡ nat_le taken most

@@ -1,5 +1,5 @@
 use Rattle.std.proofs.Common.{◌≡◌, ◌+◌, take}
-use Rattle.goods.specs.Pages.{awaited}
+use Rattle.page_rows.specs.Pages.{awaited}
 use Rattle.stock.proofs.sound.awaits_at_most.Given as goal
 
 -- what is left, and what the advices so far bring

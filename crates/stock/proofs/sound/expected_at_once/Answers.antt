@@ -1,6 +1,6 @@
-use Rattle.profile.specs.Movements.{Expected}
-use Rattle.profile.specs.Page.{PageAdvice}
-use Rattle.goods.specs.OfPairs.{amount}
+use Rattle.definitions.specs.Movements.{Expected}
+use Rattle.definitions.specs.Page.{PageAdvice}
+use Rattle.page_rows.specs.OfPairs.{amount}
 use Rattle.stock.proofs.Lefts.{taken_once}
 use Rattle.stock.proofs.sound.expected_at_once.Goals as goal
 

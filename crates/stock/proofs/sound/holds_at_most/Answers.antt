@@ -2,8 +2,8 @@ use Rattle.std.proofs.Common.{◌≡◌, ◌+◌, ◌∙◌, ℕ, List, true, ap
 use Rattle.std.proofs.lemmas.Bool.{le-leb}
 use Rattle.std.proofs.lemmas.List.{take_all}
 use Rattle.std.specs.Prelude.{nat_le}
-use Rattle.profile.specs.Page.{PageOrder}
-use Rattle.goods.specs.Pages.{held}
+use Rattle.definitions.specs.Page.{PageOrder}
+use Rattle.page_rows.specs.Pages.{held}
 use Rattle.stock.proofs.sound.holds_at_most.Goals as goal
 
 within : (left taken most : ℕ) → left + taken ≡ most → true ≡ nat_le taken most

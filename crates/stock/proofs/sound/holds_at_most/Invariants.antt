@@ -1,5 +1,5 @@
 use Rattle.std.proofs.Common.{◌≡◌, ◌+◌, take}
-use Rattle.goods.specs.Pages.{held}
+use Rattle.page_rows.specs.Pages.{held}
 use Rattle.stock.proofs.sound.holds_at_most.Given as goal
 
 -- what is left, and what the orders so far hold

@@ -1,10 +1,10 @@
 use Rattle.std.proofs.Common.{◌≡◌, ◌∙◌, ◌+◌, ◌&&◌, Bool, List, map, take, ap, sym, true}
 use Rattle.std.specs.List.{list_all}
 use Rattle.std.proofs.lemmas.List.Folds.{list_all_at, list_all_more}
-use Rattle.profile.specs.Bytes.{is_one_of}
-use Rattle.profile.specs.Means.{Line}
-use Rattle.profile.specs.Page.{PageOrder}
-use Rattle.goods.specs.Soundness.{item_alone}
+use Rattle.definitions.specs.Bytes.{is_one_of}
+use Rattle.definitions.specs.Means.{Line}
+use Rattle.definitions.specs.Page.{PageOrder}
+use Rattle.page_rows.specs.Soundness.{item_alone}
 use Rattle.stock.proofs.Repeats.{item_among}
 use Rattle.stock.proofs.sound.in_lines_at_once.Goals as goal
 

@@ -1,6 +1,6 @@
 use Rattle.std.proofs.Common.{◌≡◌, map, take, true}
 use Rattle.std.specs.List.{list_all}
-use Rattle.profile.specs.Bytes.{is_one_of}
+use Rattle.definitions.specs.Bytes.{is_one_of}
 use Rattle.stock.proofs.sound.in_lines_at_once.Given as goal
 
 abbrev pub invariant-loop-line : goal.invariant-loop-line

@@ -1,8 +1,8 @@
 use Rattle.std.proofs.Common.{◌≡◌, ◌∙◌, [], ap, subst}
-use Rattle.profile.specs.Means.{Line}
-use Rattle.profile.specs.Page.{PageLine}
-use Rattle.goods.specs.Moved.{IsPlaced}
-use Rattle.goods.specs.Soundness.{item_alone}
+use Rattle.definitions.specs.Means.{Line}
+use Rattle.definitions.specs.Page.{PageLine}
+use Rattle.page_rows.specs.Moved.{IsPlaced}
+use Rattle.page_rows.specs.Soundness.{item_alone}
 use Rattle.stock.proofs.Repeats.{rows_more}
 use Rattle.stock.proofs.sound.item_rows.Goals as goal
 

@@ -1,7 +1,7 @@
 use Rattle.std.proofs.Common.{map, take}
-use Rattle.goods.specs.Keyed.{IsSorted}
-use Rattle.goods.specs.Soundness.{item_alone}
-use Rattle.goods.specs.OfPairs.{AreRowsOf}
+use Rattle.page_rows.specs.Keyed.{IsSorted}
+use Rattle.page_rows.specs.Soundness.{item_alone}
+use Rattle.page_rows.specs.OfPairs.{AreRowsOf}
 use Rattle.stock.proofs.sound.item_rows.Given as goal
 
 abbrev pub invariant-loop-line : goal.invariant-loop-line

@@ -1,8 +1,8 @@
 use Rattle.std.proofs.Common.{ap, arith, sym, List, ◌+◌, ◌∙◌}
-use Rattle.profile.specs.Means.{Line}
+use Rattle.definitions.specs.Means.{Line}
 use Rattle.stock.proofs.SoundLaws.{given_least}
 use Rattle.std.proofs.lemmas.List.{take_all}
-use Rattle.profile.specs.Events.{quantity_of}
+use Rattle.definitions.specs.Events.{quantity_of}
 use Rattle.stock.proofs.sound.left_after.Goals as goal
 
 pub returns-in_err-left : goal.returns-in_err-left

@@ -1,5 +1,5 @@
 use Rattle.std.proofs.Common.{◌≡◌, ◌+◌, take}
-use Rattle.profile.specs.Events.{quantity_of}
+use Rattle.definitions.specs.Events.{quantity_of}
 use Rattle.stock.proofs.sound.left_after.Given as goal
 
 -- what is left, and what the lines so far give

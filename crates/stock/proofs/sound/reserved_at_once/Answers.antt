@@ -1,6 +1,6 @@
-use Rattle.profile.specs.Movements.{Reservation}
-use Rattle.profile.specs.Page.{PageOrder}
-use Rattle.goods.specs.OfPairs.{amount}
+use Rattle.definitions.specs.Movements.{Reservation}
+use Rattle.definitions.specs.Page.{PageOrder}
+use Rattle.page_rows.specs.OfPairs.{amount}
 use Rattle.stock.proofs.Lefts.{taken_once}
 use Rattle.stock.proofs.sound.reserved_at_once.Goals as goal
 

@@ -4,7 +4,7 @@ use Rattle.store.proofs.OpenLaws.{unnumbered_among, enrolled_on}
 use Rattle.std.specs.Prelude.{filter, nat_lt}
 use Rattle.std.proofs.lemmas.List.{map-append}
 use Rattle.std.proofs.lemmas.List.Elements.{filter_more}
-use Rattle.profile.specs.Header.{Who}
+use Rattle.definitions.specs.Header.{Who}
 use Rattle.rules.specs.Written.{Written}
 use Rattle.store.proofs.replaying.depositors_of.Goals as goal
 use Rattle.store.proofs.replaying.depositors_of.Goals.{then-not-is_numbered+in_ok-push, else-not-is_numbered}

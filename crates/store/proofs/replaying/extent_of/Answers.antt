@@ -1,5 +1,5 @@
 use Rattle.std.proofs.Common.{◌≡◌, ℕ, [], length, Option, ap, ◌∙◌}
-use Rattle.profile.specs.Moments.{Moment}
+use Rattle.definitions.specs.Moments.{Moment}
 use Rattle.store.proofs.Entries.{written_length}
 use Rattle.store.proofs.replaying.extent_of.Goals as goal
 

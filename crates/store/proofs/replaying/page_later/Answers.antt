@@ -1,6 +1,6 @@
 use Rattle.std.proofs.Common.{arith, subst, take, length, ◌≡◌}
-use Rattle.profile.specs.Register.{own}
-use Rattle.profile.specs.Decision.{standing}
+use Rattle.definitions.specs.Register.{own}
+use Rattle.definitions.specs.Decision.{standing}
 use Rattle.store.specs.Held.{IsHeldFor}
 use Rattle.store.proofs.Entries.{held_all}
 use Rattle.store.proofs.replaying.page_later.Goals as goal

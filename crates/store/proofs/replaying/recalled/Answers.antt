@@ -1,7 +1,7 @@
 use Rattle.std.proofs.Common.{sym, ap, ◌∙◌, subst, List, take, drop, get_or, length, suc, ◌<◌, ◌≡◌, None, Some, []}
 use Rattle.std.specs.Prelude.{find}
-use Rattle.profile.specs.declared.rules.Rules.TheVariants.{Two}
-use Rattle.profile.specs.Accepted.{IsLegal}
+use Rattle.definitions.specs.Rules.{Today}
+use Rattle.definitions.specs.Accepted.{IsLegal}
 use Rattle.rules.specs.Written.{Written}
 use Rattle.rules.specs.Decided.{IsRecalled}
 use Rattle.rules.proofs.Finds.{find_at}
@@ -30,7 +30,7 @@ returns-clause-known c = λ L is legal.
     let first : find (is_under who key) (take i (all_written L)) ≡ None = ap (λ (ws : List Written). find (is_under who key) (take i ws)) (sym is) ∙ at.first in
     let here = ap (is_under who key) c.index-entries-i.is ∙ at.here w in
     let before = ap (λ (ws : List Written). take i ws) is ∙ written_take [] L i in
-    let sent = c.in_ok-outgoing.ensures (take i L) e (drop (suc i) L) before (c.in_ok-entry.ensures ∙ t.1.row) (subst (IsLegal Two W) t.1.split legal) in
+    let sent = c.in_ok-outgoing.ensures (take i L) e (drop (suc i) L) before (c.in_ok-entry.ensures ∙ t.1.row) (subst (IsLegal Today W) t.1.split legal) in
     is_recalled W L i w c.in_ok-entry.entry e c.in_ok-outgoing.outgoing.items _ t.1 c.in_ok-entry.ensures sent (recalled_at_place W who key L i w e t.1 first here)
 
 pub returns-clause-recorded : goal.returns-clause-recorded

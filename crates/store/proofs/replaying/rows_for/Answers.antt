@@ -1,7 +1,7 @@
 use Rattle.std.proofs.Common.{ap, ◌∙◌, map, subst, Option}
-use Rattle.profile.specs.Decision.{standing}
-use Rattle.profile.specs.Register.{own}
-use Rattle.profile.specs.Rows.{shown_row}
+use Rattle.definitions.specs.Decision.{standing}
+use Rattle.definitions.specs.Register.{own}
+use Rattle.definitions.specs.Rows.{shown_row}
 use Rattle.rules.specs.Pages.{PageFacts}
 use Rattle.store.specs.Held.{IsHeldFor}
 use Rattle.store.proofs.Entries.{stock_some, rows_of_page}

@@ -1,6 +1,6 @@
 use Rattle.std.proofs.Common.{ap, ◌∙◌, subst, option_map}
-use Rattle.profile.specs.Decision.{standing}
-use Rattle.profile.specs.Register.{own}
+use Rattle.definitions.specs.Decision.{standing}
+use Rattle.definitions.specs.Register.{own}
 use Rattle.store.specs.Held.{IsHeldFor}
 use Rattle.store.specs.Open.{open_on}
 use Rattle.store.proofs.OpenLaws.{work_some}

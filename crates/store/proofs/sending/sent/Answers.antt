@@ -1,6 +1,6 @@
 use Rattle.std.proofs.Common.{arith, take, length, ap, ◌∙◌, ◌≡◌}
-use Rattle.profile.specs.History.{events}
-use Rattle.profile.specs.Register.{own}
+use Rattle.definitions.specs.History.{events}
+use Rattle.definitions.specs.Register.{own}
 use Rattle.store.specs.Sent.{sent_on}
 use Rattle.store.proofs.WentOut.{sent_all}
 use Rattle.store.proofs.sending.sent.Goals as goal

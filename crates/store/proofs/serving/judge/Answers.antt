@@ -1,9 +1,9 @@
 use Rattle.std.proofs.Common.{None, Some, IfOk, refl, rules, sym, subst}
-use Rattle.profile.specs.declared.rules.Rules.TheVariants.{Two}
-use Rattle.profile.specs.Accepted.{IsLegal, own_of}
-use Rattle.profile.specs.Decision.{standing, recalled, reply_by}
-use Rattle.profile.specs.Need.{need_of}
-use Rattle.profile.specs.Register.{command_mark}
+use Rattle.definitions.specs.Rules.{Today}
+use Rattle.definitions.specs.Accepted.{IsLegal, own_of}
+use Rattle.definitions.specs.Decision.{standing, recalled, reply_by}
+use Rattle.definitions.specs.Need.{need_of}
+use Rattle.definitions.specs.Register.{command_mark}
 use Rattle.rules.specs.Asked.{asked}
 use Rattle.rules.specs.Decided.{IsRecalled}
 use Rattle.rules.specs.Replies.{IsReply}
@@ -59,7 +59,7 @@ returns-in-None-clause-decision g c = λ clean L keeps legal.
     let unknown = recalled_none (recalled mid.warehouse (command_mark asking) (own_of L asking))
     (subst (λ o. IsRecalled o (recalled mid.warehouse (command_mark asking) (own_of L asking))) c.in-None.is there) in
     subst (λ W. IfOk c.judge_new.result (IsDecided c.args.rules W L asking c.args.moment)) same.goes.warehouse
-    (c.judge_new.ensures.decision clean L (same.keeps early L keeps) (subst (λ W. IsLegal Two W L) (sym same.goes.warehouse) legal) unknown)
+    (c.judge_new.ensures.decision clean L (same.keeps early L keeps) (subst (λ W. IsLegal Today W L) (sym same.goes.warehouse) legal) unknown)
 
 pub returns-in-None-clause-reading : goal.returns-in-None-clause-reading
 returns-in-None-clause-reading g c = reading_on (g.K.Keeper.standing c.args.keeper.now) (g.K.Keeper.standing c.known.new.self) (g.K.Keeper.standing c.judge_new.new.keeper)

@@ -1,7 +1,7 @@
 use Rattle.std.proofs.Common.{None, sym, subst, rules}
-use Rattle.profile.specs.Accepted.{own_of}
-use Rattle.profile.specs.Decision.{standing, reply_by}
-use Rattle.profile.specs.Need.{Need}
+use Rattle.definitions.specs.Accepted.{own_of}
+use Rattle.definitions.specs.Decision.{standing, reply_by}
+use Rattle.definitions.specs.Need.{Need}
 use Rattle.rules.specs.Asked.{asked}
 use Rattle.rules.specs.Decided.{IsRecalled, entries_of}
 use Rattle.rules.specs.Replies.{IsReply}

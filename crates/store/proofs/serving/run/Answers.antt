@@ -1,6 +1,6 @@
 use Rattle.std.proofs.Common.{◌≡◌, ◌∙◌, Bool, List, true, false, arith, sym, refl, ap, subst, length, map, take}
-use Rattle.profile.specs.declared.rules.Rules.TheVariants.{Two}
-use Rattle.profile.specs.Accepted.{accepted_on, replies_on}
+use Rattle.definitions.specs.Rules.{Today}
+use Rattle.definitions.specs.Accepted.{accepted_on, replies_on}
 use Rattle.store.specs.Runs.{told, all_asked}
 use Rattle.store.specs.Standing.{IsUsable}
 use Rattle.store.specs.declared.serving.Reply.{Reply}
@@ -18,7 +18,7 @@ returns-in-Err-clause-left g c = λ clean L u given open'.
     let same = c.in-Err.ensures.fault.clean (open' ∙ sym u.opened ∙ i.shut) in
     let count = ap length c.in-Err.ensures.no_more ∙ i.count in
     let given' = given_fewer c.args.commands.now _ _ (omega (arith, count)) given in
-    subst (λ n. IsUsable new (accepted_on Two old.warehouse L (take n (all_asked c.args.commands.now)))) (sym count)
+    subst (λ n. IsUsable new (accepted_on Today old.warehouse L (take n (all_asked c.args.commands.now)))) (sym count)
     (usable_stays now new same clean _ (i.usable early L u given'))
 
 pub returns-in-Err-clause-broken : goal.returns-in-Err-clause-broken
@@ -34,7 +34,7 @@ returns-in-Err-clause-broken g c = λ clean L u given shut.
     let is = c.loop-command-item.is in
     let u1 = i.usable early L u (given_fewer cs _ _ (omega (arith, count)) given) in
     let either = c.in-Err.ensures.left clean _ u1 (given_item cs _ _ _ (omega (arith, count)) given lt is) in
-    (refl, next_left Two new now.warehouse old.warehouse L cs _ _ _ lt is i.goes.warehouse count either)
+    (refl, next_left Today new now.warehouse old.warehouse L cs _ _ _ lt is i.goes.warehouse count either)
 
 pub returns-in-Err-clause-fault : goal.returns-in-Err-clause-fault
 returns-in-Err-clause-fault g c =
@@ -63,15 +63,15 @@ returns-in-Err-clause-replies g c = λ clean L u given.
     let count = ap length none ∙ i.count in
     let cs = c.args.commands.now in
     let so_far = i.told (clean_before now new c.answer_next.ensures.goes clean) L u (given_fewer cs _ _ (omega (arith, count)) given) in
-    subst (λ (rs : List Reply). map told rs ≡ replies_on Two old.warehouse L (take (length rs) (all_asked cs))) (sym {A = List Reply} none)
-    (subst (λ n. map told c.loop-command.replies.items ≡ replies_on Two old.warehouse L (take n (all_asked cs))) (sym i.count) so_far)
+    subst (λ (rs : List Reply). map told rs ≡ replies_on Today old.warehouse L (take (length rs) (all_asked cs))) (sym {A = List Reply} none)
+    (subst (λ n. map told c.loop-command.replies.items ≡ replies_on Today old.warehouse L (take n (all_asked cs))) (sym i.count) so_far)
 
 pub returns-clause-replies : goal.returns-clause-replies
 returns-clause-replies g c = λ clean L u given.
     let i = c.loop-command.invariant in
     let old = g.K.Keeper.standing c.args.keeper.now in
     let cs = c.args.commands.now in
-    subst (λ n. map told c.loop-command.replies.items ≡ replies_on Two old.warehouse L (take n (all_asked cs))) (sym i.count)
+    subst (λ n. map told c.loop-command.replies.items ≡ replies_on Today old.warehouse L (take n (all_asked cs))) (sym i.count)
     (i.told clean L u (given_fewer cs _ _ (omega (arith, i.count)) given))
 
 pub returns-clause-left : goal.returns-clause-left
@@ -80,7 +80,7 @@ returns-clause-left g c = λ clean L u given open'.
     let old = g.K.Keeper.standing c.args.keeper.now in
     let now = g.K.Keeper.standing c.loop-command.keeper in
     let cs = c.args.commands.now in
-    subst (λ n. IsUsable now (accepted_on Two old.warehouse L (take n (all_asked cs)))) (sym i.count)
+    subst (λ n. IsUsable now (accepted_on Today old.warehouse L (take n (all_asked cs)))) (sym i.count)
     (i.usable clean L u (given_fewer cs _ _ (omega (arith, i.count)) given))
 
 pub returns-clause-broken : goal.returns-clause-broken
@@ -104,15 +104,15 @@ loop-command-preserved g c =
       goes = goes_trans old now new i.goes e.goes;
       shut = i.shut ∙ e.opened;
       usable = λ clean L u given.
-          next_usable Two new now.warehouse old.warehouse L cs _ _ lt is i.goes.warehouse
+          next_usable Today new now.warehouse old.warehouse L cs _ _ lt is i.goes.warehouse
           (e.ok clean _ (i.usable (clean_before now new e.goes clean) L u (given_fewer cs _ _ (omega arith) given)) (given_item cs _ _ _ (omega arith) given lt is));
       keeps = λ clean L k legal given.
           let so_far = i.keeps (clean_before now new e.goes clean) L k legal (given_fewer cs _ _ (omega arith) given) in
-          next_keeps Two new now.warehouse old.warehouse L cs _ _ lt is i.goes.warehouse
+          next_keeps Today new now.warehouse old.warehouse L cs _ _ lt is i.goes.warehouse
           (e.keeps clean _ so_far.keeps so_far.legal (given_item cs _ _ _ (omega arith) given lt is));
       told = λ clean L u given.
           let early = clean_before now new e.goes clean in
           let fewer = given_fewer cs _ _ (omega arith) given in
           let u1 = i.usable early L u fewer in
-          next_told Two _ _ now.warehouse old.warehouse L cs _ _ lt is i.goes.warehouse (i.told early L u fewer) (e.reply clean _ u1.keeps u1.legal);
+          next_told Today _ _ now.warehouse old.warehouse L cs _ _ lt is i.goes.warehouse (i.told early L u fewer) (e.reply clean _ u1.keeps u1.legal);
     }

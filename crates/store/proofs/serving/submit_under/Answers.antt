@@ -1,7 +1,7 @@
 use Rattle.std.proofs.Common.{rules, subst, sym, List}
-use Rattle.profile.specs.Register.{Entry}
-use Rattle.profile.specs.declared.rules.Rules.TheVariants.{Two}
-use Rattle.profile.specs.Accepted.{IsLegal, after, entry_of}
+use Rattle.definitions.specs.Register.{Entry}
+use Rattle.definitions.specs.Rules.{Today}
+use Rattle.definitions.specs.Accepted.{IsLegal, after, entry_of}
 use Rattle.rules.specs.Asked.{asked}
 use Rattle.rules.specs.Decided.{LeadsInTables}
 use Rattle.store.specs.Held.{IsDecided}
@@ -108,5 +108,5 @@ returns-in_ok-commit-in-Accepted-clause-keeps g c = λ clean L k legal later.
       keeps = subst new.keeps (later_accepted c.args.rules old.warehouse L asking t c.in-Accepted.outgoing.items is.0)
           (c.in_ok-commit-in-Accepted.ensures.keeps clean L (same.keeps early L k) (entry_of c.args.rules asking t)
           (next_at (sym same.goes.warehouse) (sym c.deref.ensures.value) (sym c.deref-in-Accepted.ensures.value) next));
-      legal = subst (λ V. IsLegal Two V (after c.args.rules old.warehouse L (asking, t))) (sym goes.warehouse) later;
+      legal = subst (λ V. IsLegal Today V (after c.args.rules old.warehouse L (asking, t))) (sym goes.warehouse) later;
     }

@@ -1,11 +1,11 @@
 use Rattle.std.proofs.Common.{◌≡◌, ◌≤◌, List, [], ◌∷◌, length, refl, ap, sym, ◌∙◌, arith, Some, None}
 use Rattle.std.specs.Prelude.{Option}
 use Rattle.std.specs.List.{slice_get}
-use Rattle.profile.specs.declared.rules.Rules.{Rules}
-use Rattle.profile.specs.Bytes.{Delims}
-use Rattle.profile.specs.Cut.{Piece, AreOf, segments_of}
-use Rattle.profile.specs.Words.{Words, kind_words}
-use Rattle.profile.specs.Faults.{SetFault, set_fault}
+use Rattle.definitions.specs.declared.rules.Rules.{Rules}
+use Rattle.definitions.specs.Bytes.{Delims}
+use Rattle.definitions.specs.Cut.{Piece, AreOf, segments_of}
+use Rattle.definitions.specs.Words.{Words, kind_words}
+use Rattle.definitions.specs.Faults.{SetFault, set_fault}
 use Rattle.tables.proofs.checked.fault_of.Goals as goal
 
 no_segments : (r : Rules) (d : Delims) (words : Words) (ps : List Piece) → length ps ≤ 0 → set_fault r d words (segments_of ps) ≡ None

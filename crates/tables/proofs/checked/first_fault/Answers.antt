@@ -1,8 +1,8 @@
 use Rattle.std.proofs.Common.{[], refl, sym, ◌∙◌, ap}
-use Rattle.profile.specs.Cut.{segments_of}
-use Rattle.profile.specs.Words.{Words, kind_words}
-use Rattle.profile.specs.Faults.{fault_from}
-use Rattle.profile.proofs.FaultsLaws.{set_fault-from}
+use Rattle.definitions.specs.Cut.{segments_of}
+use Rattle.definitions.specs.Words.{Words, kind_words}
+use Rattle.definitions.specs.Faults.{fault_from}
+use Rattle.definitions.proofs.FaultsLaws.{set_fault-from}
 use Rattle.tables.proofs.checked.first_fault.Goals as goal
 
 pub loop-index-init : goal.loop-index-init

@@ -1,7 +1,7 @@
 use Rattle.std.proofs.Common.{◌≡◌, ℕ, ◌+◌, List, drop}
-use Rattle.profile.specs.Cut.{segments_of}
-use Rattle.profile.specs.Words.{kind_words}
-use Rattle.profile.specs.Faults.{set_fault, fault_from}
+use Rattle.definitions.specs.Cut.{segments_of}
+use Rattle.definitions.specs.Words.{kind_words}
+use Rattle.definitions.specs.Faults.{set_fault, fault_from}
 use Rattle.tables.specs.Rows.{is_goods, after_goods, is_advised, after_advised}
 use Rattle.tables.specs.Stages.{rest_of}
 use Rattle.tables.proofs.checked.first_fault.Given as goal

@@ -1,5 +1,5 @@
 use Rattle.std.proofs.Common.{ℕ, List, Some, sym, ◌∙◌, ap}
-use Rattle.profile.specs.Words.{words_after, kind_words}
+use Rattle.definitions.specs.Words.{words_after, kind_words}
 use Rattle.tables.specs.Ids.{is_known}
 use Rattle.tables.specs.Languages.{found}
 use Rattle.tables.specs.Rows.{is_goods, is_advised}

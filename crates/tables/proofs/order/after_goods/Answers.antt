@@ -1,6 +1,6 @@
 use Rattle.std.proofs.Common.{◌≡◌, ℕ, false, zero, suc, List, refl, ap, ◌∙◌, sym}
 use Rattle.std.specs.Prelude.{bytes_eq, codes}
-use Rattle.profile.specs.Words.{One, Then, optional, times_words, words_after}
+use Rattle.definitions.specs.Words.{One, Then, optional, times_words, words_after}
 use Rattle.tables.specs.Ids.{text_of}
 use Rattle.tables.specs.Languages.{found, some_of}
 use Rattle.tables.specs.Order.{line, total}

@@ -5,8 +5,8 @@ mod texts;
 use super::breaking::BreakingBook;
 use super::worked::{acme, counts, empty, enrolled, faultless, morning, ninety};
 use super::writing::is_written;
-use cases::clerks::{deeds, looks, request_of, response_of, strays};
-use cases::sections::section_of;
+use case_files::clerks::{deeds, looks, request_of, response_of, strays};
+use case_files::sections::section_of;
 use http::Method;
 use intake::{Access, Audience, Gauge, Status, respond, serve_one};
 use std::alloc::Global;
@@ -250,6 +250,20 @@ const OF_CLERKS: Access<'static> = Access {
     tells_health: false,
 };
 
+// Whether a request of this line and body is answered as a case says.
+fn is_case<K: Keeper>(
+    alloc: Global,
+    book: &mut K,
+    moment: Moment,
+    line: &str,
+    body: &str,
+    case: &str,
+) -> Result<bool, Fail> {
+    let request = request_of(alloc, line, body)?;
+    let response = response_of(alloc, section_of(case, "answered").1)?;
+    Ok(is_written(alloc, book, OF_CLERKS, moment, &request, &response))
+}
+
 // Fails at the first case of a text that is answered otherwise.
 fn all_written<K: Keeper>(
     alloc: Global,
@@ -259,9 +273,27 @@ fn all_written<K: Keeper>(
 ) -> Result<(), Fail> {
     for case in text.split("@case ").skip(1) {
         let (line, body) = section_of(case, "asked");
-        let request = request_of(alloc, line, body)?;
-        let response = response_of(alloc, section_of(case, "answered").1)?;
-        if !is_written(alloc, book, OF_CLERKS, moment, &request, &response) {
+        if !is_case(alloc, book, moment, line, body, case)? {
+            return Err(Fail::new(format_args!("{case}")));
+        }
+    }
+    Ok(())
+}
+
+// Fails at the first deed of a text that is answered otherwise, when it is tried or then done.
+fn all_tried_and_done<K: Keeper>(
+    alloc: Global,
+    book: &mut K,
+    moment: Moment,
+    text: &str,
+) -> Result<(), Fail> {
+    for case in text.split("@case ").skip(1) {
+        let (line, body) = section_of(case, "asked");
+        let path = line.strip_prefix("POST ").ok_or("a deed")?;
+        let tried = ["POST /try", path].concat(alloc)?;
+        if !is_case(alloc, book, moment, tried.as_str(), body, case)?
+            || !is_case(alloc, book, moment, line, body, case)?
+        {
             return Err(Fail::new(format_args!("{case}")));
         }
     }
@@ -272,7 +304,7 @@ fn all_written<K: Keeper>(
 fn clerks_are_answered(rt: HostRuntime) -> Result<(), Fail> {
     let (alloc, moment) = (rt.alloc(), morning()?);
     let mut book = enrolled(alloc, moment)?;
-    all_written(alloc, &mut book, moment, deeds::CASES)?;
+    all_tried_and_done(alloc, &mut book, moment, deeds::CASES)?;
     all_written(alloc, &mut book, moment, looks::CASES)?;
     all_written(alloc, &mut book, moment, strays::CASES)
 }

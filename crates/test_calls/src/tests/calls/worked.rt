@@ -1,6 +1,6 @@
 //! The worked example that the calls have in common: ZZ ACME announces 100 BOLT to ZZ WHSE1 on
 //! 2025-03-04, and 90 are counted.
-use profile::Rules;
+use definitions::TODAY;
 use std::alloc::Global;
 use std::test::Fail;
 use store::{
@@ -61,7 +61,7 @@ pub(crate) fn ninety(alloc: Global, kind: SheetKind) -> Result<Sheet, Fail> {
         b"L1".to_vec(alloc)?,
         b"90".to_vec(alloc)?,
     ))?;
-    match Sheet::new(kind, lines, Rules::Two) {
+    match Sheet::new(kind, lines, TODAY) {
         Ok(sheet) => Ok(sheet),
         Err(_) => Err("a sheet".into()),
     }

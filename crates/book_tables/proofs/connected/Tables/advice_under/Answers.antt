@@ -1,6 +1,6 @@
 use Rattle.std.proofs.Common.{refl, sym, subst, ◌∙◌}
 use Rattle.std.proofs.lemmas.Result.{IfOk-weaker, IfErr-weaker}
-use Rattle.profile.specs.Register.{own}
+use Rattle.definitions.specs.Register.{own}
 use Rattle.store.specs.Fault.{Fault}
 use Rattle.sqlite.specs.Held.{state}
 use Rattle.book_statements.specs.Asking.{IsAskFault}

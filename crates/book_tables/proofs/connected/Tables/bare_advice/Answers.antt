@@ -1,7 +1,7 @@
 use Rattle.std.proofs.Common.{rules, ◌≡◌, ◌∙◌, sym, ap, None, Some, Option, option_map, List, IsTrue}
 use Rattle.std.specs.Option.{option_copied}
 use Rattle.std.specs.Prelude.{slice_get}
-use Rattle.profile.specs.Header.{is_partner}
+use Rattle.definitions.specs.Header.{is_partner}
 use Rattle.sqlite.specs.Held.{state}
 use Rattle.sqlite.specs.Order.{Row}
 use Rattle.book_tables.specs.Looking.{bare_advice}

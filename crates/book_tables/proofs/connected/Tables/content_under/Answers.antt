@@ -1,6 +1,6 @@
 use Rattle.std.proofs.Common.{rules, refl, ◌∙◌, sym, ap, subst, List, option_map, IsTrue}
-use Rattle.profile.specs.Header.{is_partner, who_text}
-use Rattle.profile.specs.Reply.{out}
+use Rattle.definitions.specs.Header.{is_partner, who_text}
+use Rattle.definitions.specs.Reply.{out}
 use Rattle.sqlite.specs.Held.{state}
 use Rattle.sqlite.specs.Order.{Row}
 use Rattle.book_tables.specs.Contents.{IsContent}

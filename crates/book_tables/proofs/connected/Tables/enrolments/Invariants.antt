@@ -2,8 +2,8 @@ use Rattle.std.proofs.Common.{List, ◌++◌, Ok}
 use Rattle.std.specs.List.Sorted.{IsPermutation}
 use Rattle.sqlite.specs.Held.{state}
 use Rattle.sqlite.specs.State.{HasCleanDisk}
-use Rattle.profile.specs.Header.{Who}
-use Rattle.profile.specs.Register.{Entry}
+use Rattle.definitions.specs.Header.{Who}
+use Rattle.definitions.specs.Register.{Entry}
 use Rattle.book_statements.specs.Asking.{Went}
 use Rattle.book_tables.specs.Enrolments.{enrolments, from_text}
 use Rattle.book_statements.specs.Exits.{StandsWhileOpen}

@@ -2,7 +2,7 @@ use Rattle.std.proofs.Common.{rules, refl, ◌≡◌, ◌∙◌, sym, ap, None, 
 use Rattle.std.proofs.lemmas.Result.{IfOk-weaker}
 use Rattle.std.specs.Option.{option_copied}
 use Rattle.std.specs.Prelude.{slice_get}
-use Rattle.profile.specs.Header.{is_partner, who_text}
+use Rattle.definitions.specs.Header.{is_partner, who_text}
 use Rattle.store.specs.Replayed.{all_written}
 use Rattle.sqlite.specs.Held.{state}
 use Rattle.sqlite.specs.Order.{Row, column}

@@ -1,7 +1,7 @@
 use Rattle.std.proofs.Common.{rules, ◌≡◌, ◌∙◌, ap, List, ℕ, map, subst}
 use Rattle.std.specs.Prelude.{IfOk, IsErrAnd}
 use Rattle.rules.specs.Parts.{Named}
-use Rattle.profile.specs.Bytes.{is_one_of}
+use Rattle.definitions.specs.Bytes.{is_one_of}
 use Rattle.book_tables.specs.Needed.{part_for}
 use Rattle.book_tables.proofs.OnceKept.{same_texts}
 use Rattle.store.specs.Fault.{Fault}

@@ -1,7 +1,7 @@
 use Rattle.std.proofs.Common.{rules, ◌≡◌, ◌∙◌, ap, List, ℕ, subst}
 use Rattle.std.specs.Prelude.{IfOk, IsErrAnd}
 use Rattle.rules.specs.Parts.{Named}
-use Rattle.profile.specs.Need.{is_number_of}
+use Rattle.definitions.specs.Need.{is_number_of}
 use Rattle.book_tables.specs.Needed.{part_for}
 use Rattle.book_tables.proofs.OnceKept.{same_numbers}
 use Rattle.store.specs.Fault.{Fault}

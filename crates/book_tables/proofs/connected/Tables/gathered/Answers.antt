@@ -1,9 +1,9 @@
 use Rattle.std.proofs.Common.{◌≡◌, ◌∙◌, ◌++◌, ap, List, ℕ, map, subst}
 use Rattle.std.specs.Prelude.{IfOk, flat_map}
 use Rattle.sqlite.specs.Held.{state}
-use Rattle.profile.specs.Need.{items_in, items_of}
-use Rattle.profile.specs.Page.{PageAdvice, PageOrder, page_of}
-use Rattle.profile.specs.Register.{own}
+use Rattle.definitions.specs.Need.{items_in, items_of}
+use Rattle.definitions.specs.Page.{PageAdvice, PageOrder, page_of}
+use Rattle.definitions.specs.Register.{own}
 use Rattle.rules.specs.Pages.{PageFacts}
 use Rattle.rules.specs.Parts.{Named}
 use Rattle.book_tables.specs.Needed.{none_named, part_for, with_numbers, with_texts}

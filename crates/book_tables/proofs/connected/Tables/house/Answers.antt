@@ -1,6 +1,6 @@
 use Rattle.std.proofs.Common.{rules, List, subst}
-use Rattle.profile.specs.declared.rules.Rules.{Rules}
-use Rattle.profile.specs.Header.{Who}
+use Rattle.definitions.specs.declared.rules.Rules.{Rules}
+use Rattle.definitions.specs.Header.{Who}
 use Rattle.sqlite.specs.Held.{state}
 use Rattle.sqlite.specs.Order.{Row}
 use Rattle.book_statements.specs.Recorded.{IsHouse}

@@ -1,6 +1,6 @@
 use Rattle.std.proofs.Common.{rules, refl, ℕ, not, ap, ◌∙◌, IsTrue}
 use Rattle.std.specs.Prelude.{◌==◌}
-use Rattle.profile.specs.Header.{is_partner, who_text}
+use Rattle.definitions.specs.Header.{is_partner, who_text}
 use Rattle.sqlite.specs.Held.{state}
 use Rattle.book_tables.proofs.HasEntries.{none_read}
 use Rattle.book_statements.proofs.ShowingTexts.{has_reads}

@@ -2,10 +2,10 @@ use Rattle.rules.proofs.Fits.{page_fits}
 use Rattle.std.proofs.Common.{arith, rules, ◌≡◌, ◌∙◌, sym, ap, subst, None, Some, Option, List, IsTrue}
 use Rattle.std.specs.Option.{option_copied}
 use Rattle.std.specs.Prelude.{slice_get}
-use Rattle.profile.specs.declared.rules.Rules.TheVariants.{Two}
-use Rattle.profile.specs.Header.{is_partner}
-use Rattle.profile.specs.Page.{page_of}
-use Rattle.profile.specs.Register.{own}
+use Rattle.definitions.specs.Rules.{Today}
+use Rattle.definitions.specs.Header.{is_partner}
+use Rattle.definitions.specs.Page.{page_of}
+use Rattle.definitions.specs.Register.{own}
 use Rattle.sqlite.specs.Held.{state}
 use Rattle.sqlite.specs.Order.{Row, column}
 use Rattle.book_tables.proofs.LastFound.{IsLast, last_read, last_reads}
@@ -40,5 +40,5 @@ returns-clause-asked g c = asked_wrong g.S.Store c.args.self.now c.of_depositor.
     let more = begins_with c.in_ok-rows.rows.items c.in-Some.row.now first in
     let told = last_read (state g.S.Store c.args.self.now.conn) W L c.args.who partner stands c.in_ok-rows.rows.items (c.in_ok-rows.ensures.finds clean) in
     let row = subst (λ (rs : List Row). IsLast rs (page_of (own L c.args.who)).entries) more.1 told in
-    let few = (page_fits Two W L c.args.who (stands (c.in_ok-rows.ensures.finds clean).0).legal).entries in
+    let few = (page_fits Today W L c.args.who (stands (c.in_ok-rows.ensures.finds clean).0).legal).entries in
     c.in-None.ensures _ (omega (arith, few)) (ap (λ (r : Row). column r 0) row))

@@ -1,8 +1,8 @@
 use Rattle.std.proofs.Common.{rules, true, ◌≡◌, ◌∙◌, sym, ap, subst₂, List, Option, Ok, Some, option_map, map, IsTrue}
 use Rattle.std.specs.Prelude.{IsErrAnd}
 use Rattle.std.specs.List.{list_all}
-use Rattle.profile.specs.Header.{is_partner}
-use Rattle.profile.specs.Rows.{LotRow}
+use Rattle.definitions.specs.Header.{is_partner}
+use Rattle.definitions.specs.Rows.{LotRow}
 use Rattle.rules.specs.Fitting.{is_fitting_row}
 use Rattle.store.specs.Fault.{Fault}
 use Rattle.store.specs.Fault.TheVariants.{OutOfMemory}

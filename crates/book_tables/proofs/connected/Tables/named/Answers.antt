@@ -1,7 +1,7 @@
 use Rattle.std.proofs.Common.{◌≡◌, ◌∙◌, ap, List, ℕ, Ok, rules, subst}
 use Rattle.std.specs.Prelude.{IfOk, IsErrAnd}
 use Rattle.sqlite.specs.Held.{state}
-use Rattle.profile.specs.Need.{Need}
+use Rattle.definitions.specs.Need.{Need}
 use Rattle.store.specs.Fault.{Fault}
 use Rattle.book_tables.specs.Needed.{part_for, with_numbers, with_texts}
 use Rattle.book_tables.specs.declared.needed.Sought.TheVariants.{Advice, Order}

@@ -1,8 +1,8 @@
 use Rattle.std.proofs.Common.{◌≡◌, ◌∙◌, ap, sym, refl, subst, List, ℕ, Ok}
 use Rattle.sqlite.specs.Held.{state}
-use Rattle.profile.specs.Header.{Who}
-use Rattle.profile.specs.Page.{page_of}
-use Rattle.profile.specs.Register.{Entry, own}
+use Rattle.definitions.specs.Header.{Who}
+use Rattle.definitions.specs.Page.{page_of}
+use Rattle.definitions.specs.Register.{Entry, own}
 use Rattle.rules.specs.Pages.{IsSound, PageFacts}
 use Rattle.rules.specs.Puts.{nothing_yet}
 use Rattle.rules.proofs.Gathered.{nothing_part}

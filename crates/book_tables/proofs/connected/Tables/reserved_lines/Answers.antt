@@ -1,9 +1,9 @@
 use Rattle.std.specs.List.{list_all}
 use Rattle.rules.specs.Fitting.{is_fitting_line}
 use Rattle.std.proofs.Common.{true, rules, ◌≡◌, ◌∙◌, sym, ap, subst, List, Option, Some, option_map, map, IsTrue}
-use Rattle.profile.specs.declared.rules.Rules.TheVariants.{Two}
-use Rattle.profile.specs.Header.{is_partner}
-use Rattle.profile.specs.Means.{Line}
+use Rattle.definitions.specs.Rules.{Today}
+use Rattle.definitions.specs.Header.{is_partner}
+use Rattle.definitions.specs.Means.{Line}
 use Rattle.sqlite.specs.Held.{state}
 use Rattle.sqlite.specs.Order.{Row}
 use Rattle.book_tables.specs.Showing.{line_shown}
@@ -14,7 +14,7 @@ use Rattle.book_tables.proofs.ReadLemmas.{none_some, same_some}
 use Rattle.book_tables.proofs.connected.Tables.reserved_lines.Goals as goal
 
 abbrev ReadsRight : List Row → Option (List Line) → Type 0
-ReadsRight rows read = (rs : List Line) → list_all (is_fitting_line Two) rs ≡ true → rows ≡ map line_shown rs → read ≡ Some rs
+ReadsRight rows read = (rs : List Line) → list_all (is_fitting_line Today) rs ≡ true → rows ≡ map line_shown rs → read ≡ Some rs
 
 pub under_text-requires : goal.under_text-requires
 under_text-requires g c = reserved_reads

@@ -1,9 +1,9 @@
 use Rattle.std.proofs.Common.{rules, refl, ◌≡◌, ◌∙◌, sym, ap, subst, List, Option, Some, option_map, map, filter, length, IsTrue}
 use Rattle.std.specs.Prelude.{nat_lt}
 use Rattle.std.specs.List.{AllByRecursion}
-use Rattle.profile.specs.Header.{is_partner, who_text}
-use Rattle.profile.specs.Register.{own}
-use Rattle.profile.specs.Rows.{OutRow, outbox_rows}
+use Rattle.definitions.specs.Header.{is_partner, who_text}
+use Rattle.definitions.specs.Register.{own}
+use Rattle.definitions.specs.Rows.{OutRow, outbox_rows}
 use Rattle.sqlite.specs.Held.{state}
 use Rattle.sqlite.specs.Order.{Row}
 use Rattle.sqlite_rules.specs.Lists.{Has}

@@ -1,10 +1,10 @@
 use Rattle.std.proofs.Common.{rules, true, ◌≡◌, ◌∙◌, sym, ap, subst₂, List, Option, Ok, Some, option_map, map, IsTrue}
 use Rattle.std.specs.Prelude.{IsErrAnd}
 use Rattle.std.specs.List.{list_all}
-use Rattle.profile.specs.Header.{is_partner}
-use Rattle.profile.specs.Register.{own}
-use Rattle.profile.specs.History.{events}
-use Rattle.profile.specs.Rows.{LotRow, shown_row, running_rows}
+use Rattle.definitions.specs.Header.{is_partner}
+use Rattle.definitions.specs.Register.{own}
+use Rattle.definitions.specs.History.{events}
+use Rattle.definitions.specs.Rows.{LotRow, shown_row, running_rows}
 use Rattle.store.specs.Fault.{Fault}
 use Rattle.store.specs.Fault.TheVariants.{OutOfMemory}
 use Rattle.sqlite.specs.Held.{state}

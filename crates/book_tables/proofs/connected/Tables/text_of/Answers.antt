@@ -1,6 +1,6 @@
 use Rattle.std.proofs.Common.{refl, ap, sym, ◌∙◌, ℕ, List, Option, Some, option_map}
 use Rattle.std.specs.Prelude.{◌==◌, find}
-use Rattle.profile.specs.Rows.{OutRow}
+use Rattle.definitions.specs.Rows.{OutRow}
 use Rattle.sqlite.specs.Held.{state}
 use Rattle.book_tables.specs.Outgoing.{IsReadFirst, content_text}
 use Rattle.book_tables.proofs.AskedLater.{answers_before, stands_later, clean_before, outbox_none, outbox_some}

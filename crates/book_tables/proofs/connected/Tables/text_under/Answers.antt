@@ -1,6 +1,6 @@
 use Rattle.std.proofs.Common.{rules, ◌≡◌, ◌∙◌, ℕ, sym, ap, subst, length, Bool, true, false, None, Some, Option, option_map, List, IsTrue}
 use Rattle.std.specs.Prelude.{◌==◌, if◌then◌else◌}
-use Rattle.profile.specs.Header.{is_partner}
+use Rattle.definitions.specs.Header.{is_partner}
 use Rattle.sqlite.specs.Held.{state}
 use Rattle.sqlite.specs.Order.{Row}
 use Rattle.book_tables.specs.Contents.{IsContent}

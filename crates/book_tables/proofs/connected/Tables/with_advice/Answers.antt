@@ -1,6 +1,6 @@
 use Rattle.std.proofs.Common.{◌≡◌, ◌∙◌, ap, sym, Some, None}
-use Rattle.profile.specs.Page.{page_of}
-use Rattle.profile.specs.Register.{own}
+use Rattle.definitions.specs.Page.{page_of}
+use Rattle.definitions.specs.Register.{own}
 use Rattle.rules.specs.Pages.{PageFacts, advice_at}
 use Rattle.rules.specs.Keyed.{put_advice}
 use Rattle.rules.proofs.Gathered.{advice_absent, advice_part}

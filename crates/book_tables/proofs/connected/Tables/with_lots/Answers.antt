@@ -1,8 +1,8 @@
 use Rattle.std.proofs.Common.{◌∙◌, ap, List}
 use Rattle.std.specs.Prelude.{fold}
-use Rattle.profile.specs.Page.{page_of}
-use Rattle.profile.specs.Register.{own}
-use Rattle.profile.specs.Rows.{LotRow}
+use Rattle.definitions.specs.Page.{page_of}
+use Rattle.definitions.specs.Register.{own}
+use Rattle.definitions.specs.Rows.{LotRow}
 use Rattle.rules.specs.Pages.{PageFacts}
 use Rattle.rules.specs.Parts.{part_of}
 use Rattle.rules.specs.Keyed.{put_row}

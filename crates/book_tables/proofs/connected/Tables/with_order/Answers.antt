@@ -1,6 +1,6 @@
 use Rattle.std.proofs.Common.{◌≡◌, ◌∙◌, ap, sym, Some, None}
-use Rattle.profile.specs.Page.{page_of}
-use Rattle.profile.specs.Register.{own}
+use Rattle.definitions.specs.Page.{page_of}
+use Rattle.definitions.specs.Register.{own}
 use Rattle.rules.specs.Pages.{PageFacts, order_at}
 use Rattle.rules.specs.Keyed.{put_order}
 use Rattle.rules.proofs.Gathered.{order_absent, order_part}

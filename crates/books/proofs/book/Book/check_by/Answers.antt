@@ -3,7 +3,7 @@ use Rattle.std.specs.Prelude.{IsErrAnd}
 use Rattle.std.proofs.lemmas.List.{take_all}
 use Rattle.sqlite.specs.Effect.{Database}
 use Rattle.sqlite.specs.Held.{state}
-use Rattle.profile.specs.declared.rules.Rules.TheVariants.{Two}
+use Rattle.definitions.specs.Rules.{Today}
 use Rattle.store.specs.Fault.{Fault}
 use Rattle.store.specs.Fault.TheVariants.{Store, Reopen, NotThisBook, Device}
 use Rattle.book_tables.specs.Comparing.{AreTables, IsLaid}
@@ -60,9 +60,9 @@ returns-clause-stands g c = rw (← c.self.view_is) (λ clean laid are.
     let before = c.in_ok-all.ensures.went.left.same (clean_before mid new its.asked.left clean) in
     let laid' : IsLaid mid = λ o. subst (λ (d : Database). IsLayout d.schema) (sym (before.now o)) (laid (before.was_open o)) in
     let house : c.args.copy.now.warehouse ≡ W = c.requires.warehouse ∙ ap (λ (o : Opened _). o.warehouse) (sym c.self.view_is) in
-    let found : IsCopy Two W (standing_of g.C.Store c.give_all.new.copy) =
-    subst (λ V. IsCopy Two V (standing_of g.C.Store c.give_all.new.copy)) house (c.in_ok-all.ensures.copy c.if-not-all.false) in
-    let copy = subst (λ x. IsCopy Two W (standing_of g.C.Store x)) (sym c.copy.view_is) found in
+    let found : IsCopy Today W (standing_of g.C.Store c.give_all.new.copy) =
+    subst (λ V. IsCopy Today V (standing_of g.C.Store c.give_all.new.copy)) house (c.in_ok-all.ensures.copy c.if-not-all.false) in
+    let copy = subst (λ x. IsCopy Today W (standing_of g.C.Store x)) (sym c.copy.view_is) found in
     let usable = copy.usable in
     let kept = usable.keeps in
     let stood : StandsWhileOpen other W copy.register = subst (λ V. StandsWhileOpen other V copy.register) copy.warehouse kept.stands in

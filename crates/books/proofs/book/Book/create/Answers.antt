@@ -3,9 +3,9 @@ use Rattle.std.specs.Prelude.{IsTrue}
 use Rattle.sqlite.specs.Held.{state}
 use Rattle.sqlite.specs.Tree.{Trees}
 use Rattle.sqlite.proofs.StateLemmas.{survives_weaker}
-use Rattle.profile.specs.declared.rules.Rules.TheVariants.{Two}
-use Rattle.profile.specs.Header.{is_partner}
-use Rattle.profile.specs.Accepted.{IsLegal}
+use Rattle.definitions.specs.Rules.{Today}
+use Rattle.definitions.specs.Header.{is_partner}
+use Rattle.definitions.specs.Accepted.{IsLegal}
 use Rattle.store.proofs.Entries.{nothing_legal}
 use Rattle.book_statements.specs.Layout.{no_layout}
 use Rattle.book_statements.specs.Standing.{StandsIn}
@@ -22,6 +22,6 @@ pub returns-in-Err-clause-crash : goal.returns-in-Err-clause-crash
 returns-in-Err-clause-crash g c =
     let house : IsTrue (is_partner c.args.warehouse) = search rules in
     survives_weaker (state g.S.Store c.args.tables.conn) (state g.S.Store c.make.new.self.conn)
-    (λ (db : Trees). IsLegal Two c.args.warehouse [] → c.args.tables.conn.schema ≡ no_layout → StandsIn c.args.warehouse [] db)
+    (λ (db : Trees). IsLegal Today c.args.warehouse [] → c.args.tables.conn.schema ≡ no_layout → StandsIn c.args.warehouse [] db)
     (λ (db : Trees). c.args.tables.conn.schema ≡ no_layout → StandsIn c.args.warehouse [] db)
     (λ clean db stands. stands (nothing_legal c.args.warehouse house)) c.make.ensures.whole.crash

@@ -1,6 +1,6 @@
 use Rattle.std.proofs.Common.{refl, rules}
 use Rattle.sqlite.specs.Held.{state}
-use Rattle.profile.specs.declared.rules.Rules.TheVariants.{One}
+use Rattle.definitions.specs.declared.rules.Rules.TheVariants.{One}
 use Rattle.book_statements.proofs.Limited.{spends_both, spends_same}
 use Rattle.books.proofs.OpeningLemmas.{clean_mid, opens_as, opened_at, leaves_carried, left_carried, queried}
 use Rattle.books.proofs.book.Book.open_from_telling.Goals as goal

@@ -1,6 +1,6 @@
 use Rattle.std.proofs.Common.{refl, sym, ◌∙◌, rules}
 use Rattle.sqlite.specs.Held.{state}
-use Rattle.profile.specs.declared.rules.Rules.TheVariants.{Two}
+use Rattle.definitions.specs.Rules.{Today}
 use Rattle.book_statements.proofs.Limited.{spends_both, spends_same}
 use Rattle.books.proofs.OpeningLemmas.{not_both, opened_at, queried, second_as_it_is}
 use Rattle.books.proofs.book.Book.open_second.Goals as goal
@@ -16,12 +16,12 @@ returns-in-Two-clause-ok g c =
       usable = λ clean q W L stands.
           let it = c.in-Ok.ensures.count clean q W L stands in
           let opened = c.in-Ok.ensures.tells.was_open clean in
-          opened_at v Two found.1 c.args.tables mid mid _ asked (second_as_it_is v found.1 mid) q W L mid.refused found.0.1 _ refl clean opened
+          opened_at v Today found.1 c.args.tables mid mid _ asked (second_as_it_is v found.1 mid) q W L mid.refused found.0.1 _ refl clean opened
           c.settle.ensures.live c.settle.ensures.rest (λ db may. g.met.S.Store.settled was.store db opened may) (sym c.in-Two.is ∙ it.0) it.1 it.2 stands;
       keeps = λ clean q W L stands.
           let it = c.in-Ok.ensures.count clean q W L stands in
           let opened = c.in-Ok.ensures.tells.was_open clean in
-          let usable = opened_at v Two found.1 c.args.tables mid mid _ asked (second_as_it_is v found.1 mid) q W L mid.refused W _ refl clean opened
+          let usable = opened_at v Today found.1 c.args.tables mid mid _ asked (second_as_it_is v found.1 mid) q W L mid.refused W _ refl clean opened
           c.settle.ensures.live c.settle.ensures.rest (λ db may. g.met.S.Store.settled was.store db opened may) (sym c.in-Two.is ∙ it.0) refl it.2 stands in
           (it.1, usable.keeps);
       opened = refl;
@@ -32,7 +32,7 @@ returns-in-Two-clause-ok g c =
     }
 
 pub returns-in-One-clause-this : goal.returns-in-One-clause-this
-returns-in-One-clause-this g c = λ clean W L stands _. not_both (sym c.in-One.is ∙ (c.in-Ok.ensures.count clean Two W L stands).0)
+returns-in-One-clause-this g c = λ clean W L stands _. not_both (sym c.in-One.is ∙ (c.in-Ok.ensures.count clean Today W L stands).0)
 
 pub returns-in-Err-clause-this : goal.returns-in-Err-clause-this
-returns-in-Err-clause-this g c = λ clean W L stands. c.in-Err.ensures.tells.this clean Two W L stands
+returns-in-Err-clause-this g c = λ clean W L stands. c.in-Err.ensures.tells.this clean Today W L stands

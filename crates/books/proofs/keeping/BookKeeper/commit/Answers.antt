@@ -1,5 +1,5 @@
 use Rattle.std.proofs.Common.{◌≡◌, ◌+◌, [], ◌∷◌, ◌++◌, ap, subst, sym, true, false, ◌∙◌, refl}
-use Rattle.profile.specs.Header.{who_text}
+use Rattle.definitions.specs.Header.{who_text}
 use Rattle.sqlite.specs.Held.{Held, state}
 use Rattle.store.specs.Standing.{LeavesEither}
 use Rattle.book_statements.specs.Exits.{StandsWithEntry}

@@ -1,6 +1,6 @@
 use Rattle.std.proofs.Common.{◌≡◌, ◌∙◌, ℕ, List, IfOk, option_map, subst}
-use Rattle.profile.specs.Decision.{recalled}
-use Rattle.profile.specs.Register.{own}
+use Rattle.definitions.specs.Decision.{recalled}
+use Rattle.definitions.specs.Register.{own}
 use Rattle.rules.specs.Decided.{IsRecalled}
 use Rattle.sqlite.specs.Held.{state}
 use Rattle.store.specs.Known.{first_under}

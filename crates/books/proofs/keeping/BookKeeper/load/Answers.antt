@@ -1,7 +1,7 @@
 use Rattle.std.proofs.Common.{sym, subst, Option}
 use Rattle.std.proofs.lemmas.Result.{IfOk-weaker}
-use Rattle.profile.specs.Decision.{standing}
-use Rattle.profile.specs.Register.{own}
+use Rattle.definitions.specs.Decision.{standing}
+use Rattle.definitions.specs.Register.{own}
 use Rattle.sqlite.specs.Held.{state}
 use Rattle.rules.specs.Pages.{PageFacts}
 use Rattle.store.specs.Held.{IsHeld}

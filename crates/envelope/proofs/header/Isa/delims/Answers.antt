@@ -1,5 +1,5 @@
 use Rattle.std.proofs.Common.{ap, sym, ◌∙◌}
-use Rattle.profile.specs.Header.{is_unreadable}
+use Rattle.definitions.specs.Header.{is_unreadable}
 use Rattle.envelope.proofs.header.Isa.delims.Goals as goal
 
 pub returns-clause-readable : goal.returns-clause-readable

@@ -1,7 +1,7 @@
 use Rattle.std.proofs.Common.{List, map, ap, ◌∙◌}
 use Rattle.std.specs.Prelude.{codes}
 use Rattle.std.proofs.lemmas.Result.{IfOk-weaker}
-use Rattle.profile.specs.Texts.{document_text}
+use Rattle.definitions.specs.Texts.{document_text}
 use Rattle.sets_out.specs.Documents.{AdjustedLine, adjustment_body}
 use Rattle.rules.specs.Documents.{adjusted_from}
 use Rattle.rules.proofs.documents.adjustments.adjustment.Goals as goal

@@ -1,11 +1,11 @@
 use Rattle.std.proofs.Common.{◌≡◌, List, ◌++◌, codes, map, ap, ◌∙◌}
 use Rattle.std.proofs.lemmas.Result.{IfOk-weaker}
-use Rattle.profile.specs.Clerk.{is_ascending}
-use Rattle.profile.specs.Events.{pair_before}
-use Rattle.profile.specs.Lists.{in_order}
-use Rattle.profile.specs.Means.{Line}
-use Rattle.profile.specs.Page.{PageAdvice}
-use Rattle.profile.specs.Texts.{document_text, total_of}
+use Rattle.definitions.specs.Clerk.{is_ascending}
+use Rattle.definitions.specs.Events.{pair_before}
+use Rattle.definitions.specs.Lists.{in_order}
+use Rattle.definitions.specs.Means.{Line}
+use Rattle.definitions.specs.Page.{PageAdvice}
+use Rattle.definitions.specs.Texts.{document_text, total_of}
 use Rattle.sets_out.specs.Documents.{Receipt, receipt_body}
 use Rattle.sets_out.specs.declared.envelopes.Envelope.{Envelope}
 use Rattle.rules.specs.Documents.{received_line, receipt_text}

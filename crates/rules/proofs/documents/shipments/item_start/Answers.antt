@@ -1,6 +1,6 @@
 use Rattle.std.proofs.Common.{rules, arith}
 use Rattle.std.proofs.lemmas.List.Sorted.{IsPartitionPoint-from_clause}
-use Rattle.profile.specs.Bytes.{comes_before}
+use Rattle.definitions.specs.Bytes.{comes_before}
 use Rattle.stock.specs.Pairs.{pair_key}
 use Rattle.stock.proofs.Halves.{ascending_by}
 use Rattle.stock.proofs.KeyLemmas.{before_parted}

@@ -1,10 +1,10 @@
 use Rattle.std.proofs.Common.{ℕ, List, map, ap, ◌∙◌}
 use Rattle.std.specs.Prelude.{codes}
 use Rattle.std.proofs.lemmas.Result.{IfOk-weaker}
-use Rattle.profile.specs.Clerk.{is_ascending}
-use Rattle.profile.specs.Means.{Line}
-use Rattle.profile.specs.Page.{PageLine, PageOrder}
-use Rattle.profile.specs.Texts.{document_text, total_of}
+use Rattle.definitions.specs.Clerk.{is_ascending}
+use Rattle.definitions.specs.Means.{Line}
+use Rattle.definitions.specs.Page.{PageLine, PageOrder}
+use Rattle.definitions.specs.Texts.{document_text, total_of}
 use Rattle.sets_out.specs.Documents.{ShippedLine, shipment_body}
 use Rattle.rules.specs.Documents.{shipped_of}
 use Rattle.rules.proofs.ItemLines.{sheet_ascends}

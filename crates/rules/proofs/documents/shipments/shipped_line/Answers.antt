@@ -1,10 +1,10 @@
 use Rattle.std.proofs.Common.{◌≡◌, ap, sym, ◌∙◌, List, length, arith, map}
 use Rattle.std.specs.Prelude.{bytes_eq, filter}
-use Rattle.profile.specs.Means.{Line}
-use Rattle.profile.specs.Events.{pair_before}
-use Rattle.profile.specs.Lists.{in_order}
-use Rattle.profile.specs.Page.{PageLine}
-use Rattle.profile.specs.Texts.{total_of}
+use Rattle.definitions.specs.Means.{Line}
+use Rattle.definitions.specs.Events.{pair_before}
+use Rattle.definitions.specs.Lists.{in_order}
+use Rattle.definitions.specs.Page.{PageLine}
+use Rattle.definitions.specs.Texts.{total_of}
 use Rattle.rules.specs.Documents.{picked_lot}
 use Rattle.stock.proofs.Halves.{ascending_filter}
 use Rattle.rules.proofs.ItemLines.{filter_length}

@@ -1,8 +1,8 @@
 use Rattle.std.proofs.Common.{rules, ◌≡◌, ◌++◌, decimal, ap, ◌∙◌}
 use Rattle.sha2.specs.Sha256.{sha256}
-use Rattle.profile.specs.Header.{who_text}
-use Rattle.profile.specs.Moments.{stamp}
-use Rattle.profile.specs.Rules.{rules_number}
+use Rattle.definitions.specs.Header.{who_text}
+use Rattle.definitions.specs.Moments.{stamp}
+use Rattle.definitions.specs.Rules.{rules_number}
 use Rattle.seals.specs.Seals.{framed}
 use Rattle.seals.proofs.Chains.{six_added}
 use Rattle.seals.proofs.seal.Seal.after.Goals as goal

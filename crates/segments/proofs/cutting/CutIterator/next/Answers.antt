@@ -1,6 +1,6 @@
 use Rattle.std.proofs.Common.{Some}
 use Rattle.std.proofs.Common.{subst}
-use Rattle.profile.specs.Cut.{Uncut, GivesSegment}
+use Rattle.definitions.specs.Cut.{Uncut, GivesSegment}
 use Rattle.segments.proofs.Places.{gives_first}
 use Rattle.segments.proofs.cutting.CutIterator.next.Goals as goal
 

@@ -1,5 +1,5 @@
 use Rattle.std.proofs.Common.{◌≡◌, map, take}
-use Rattle.profile.specs.Clerk.{line_of}
+use Rattle.definitions.specs.Clerk.{line_of}
 use Rattle.sheets.proofs.making.Sheet.lines.Given as goal
 
 -- the lines so far

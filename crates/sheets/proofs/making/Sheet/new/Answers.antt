@@ -1,5 +1,5 @@
 use Rattle.std.proofs.Common.{◌≡◌, true, false, Some, None, Ok, map}
-use Rattle.profile.specs.Clerk.{line_of, sheet_of, is_ascending}
+use Rattle.definitions.specs.Clerk.{line_of, sheet_of, is_ascending}
 use Rattle.sheets.specs.Misfits.{misfit_of}
 use Rattle.sheets.proofs.RefusalLaws.{misfit_is}
 use Rattle.sheets.proofs.SheetLaws.{made, made_of_kind, twice, widened}

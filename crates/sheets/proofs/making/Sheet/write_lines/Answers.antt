@@ -1,7 +1,7 @@
 use Rattle.std.proofs.Common.{◌≤◌, All, subst, sym}
-use Rattle.profile.specs.Bytes.{value}
-use Rattle.profile.specs.Clerk.{RawLine}
-use Rattle.profile.specs.Limits.{most_recounted}
+use Rattle.definitions.specs.Bytes.{value}
+use Rattle.definitions.specs.Clerk.{RawLine}
+use Rattle.definitions.specs.Limits.{most_recounted}
 use Rattle.sheets.proofs.SheetLaws.{fits}
 use Rattle.sheets.proofs.making.Sheet.write_lines.Goals as goal
 

@@ -1,6 +1,6 @@
 use Rattle.std.proofs.Common.{◌≡◌, true, false, refl, sym, ◌∙◌, subst}
-use Rattle.goods.specs.Pages.{AreSorted, IsSound, PageFacts}
-use Rattle.goods.specs.Soundness.{is_kept}
+use Rattle.page_rows.specs.Pages.{AreSorted, IsSound, PageFacts}
+use Rattle.page_rows.specs.Soundness.{is_kept}
 use Rattle.stock.specs.Facts.{facts_of}
 use Rattle.stock.proofs.SoundLaws.{kept_sound, sound_kept}
 use Rattle.stock.proofs.drafts.Draft.page.Goals as goal

@@ -1,4 +1,4 @@
-use Rattle.goods.proofs.KeyLemmas.{documents_put_sorted}
+use Rattle.page_rows.proofs.KeyLemmas.{documents_put_sorted}
 use Rattle.stock.proofs.drafts.Draft.with_document.Goals as goal
 
 pub invariant_of-result : goal.invariant_of-result

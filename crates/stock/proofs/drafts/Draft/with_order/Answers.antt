@@ -1,4 +1,4 @@
-use Rattle.goods.proofs.KeyLemmas.{orders_put_sorted}
+use Rattle.page_rows.proofs.KeyLemmas.{orders_put_sorted}
 use Rattle.stock.proofs.drafts.Draft.with_order.Goals as goal
 
 pub invariant_of-result : goal.invariant_of-result

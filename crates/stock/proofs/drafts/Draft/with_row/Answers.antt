@@ -1,6 +1,6 @@
 use Rattle.std.proofs.Common.{ap, ◌∙◌}
-use Rattle.goods.specs.Keyed.{rises_by, key_before, row_key}
-use Rattle.goods.proofs.KeyLemmas.{put_sorted}
+use Rattle.page_rows.specs.Keyed.{rises_by, key_before, row_key}
+use Rattle.page_rows.proofs.KeyLemmas.{put_sorted}
 use Rattle.stock.proofs.drafts.Draft.with_row.Goals as goal
 
 pub invariant_of-result : goal.invariant_of-result

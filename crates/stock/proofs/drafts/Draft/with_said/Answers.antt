@@ -1,7 +1,7 @@
 use Rattle.std.proofs.Common.{ap, ◌∙◌}
 use Rattle.std.specs.Prelude.{nat_lt}
-use Rattle.goods.specs.Keyed.{rises_by, entry_of}
-use Rattle.goods.proofs.KeyLemmas.{said_sorted}
+use Rattle.page_rows.specs.Keyed.{rises_by, entry_of}
+use Rattle.page_rows.proofs.KeyLemmas.{said_sorted}
 use Rattle.stock.proofs.drafts.Draft.with_said.Goals as goal
 
 pub invariant_of-result : goal.invariant_of-result

@@ -1,5 +1,5 @@
-use Rattle.goods.specs.Functions.{function_text}
-use Rattle.goods.proofs.KeyLemmas.{sent_sorted}
+use Rattle.page_rows.specs.Functions.{function_text}
+use Rattle.page_rows.proofs.KeyLemmas.{sent_sorted}
 use Rattle.stock.proofs.drafts.Draft.with_sent.Goals as goal
 
 pub invariant_of-result : goal.invariant_of-result

@@ -1,6 +1,6 @@
 use Rattle.std.proofs.Common.{◌∙◌, ap, sym}
-use Rattle.goods.specs.Pages.{PageFacts, document_at, is_document}
-use Rattle.goods.proofs.Finds.{find_at}
+use Rattle.page_rows.specs.Pages.{PageFacts, document_at, is_document}
+use Rattle.page_rows.proofs.Finds.{find_at}
 use Rattle.stock.proofs.page.Page.document.Goals as goal
 
 pub returns-in-Ok : goal.returns-in-Ok

@@ -1,5 +1,5 @@
 use Rattle.std.proofs.Common.{arith, ap, sym, subst}
-use Rattle.goods.specs.Pages.{PageFacts}
+use Rattle.page_rows.specs.Pages.{PageFacts}
 use Rattle.stock.specs.Facts.{facts_of}
 use Rattle.stock.specs.Shows.{Shows}
 use Rattle.stock.proofs.PageLemmas.{next_sound, next_shows}

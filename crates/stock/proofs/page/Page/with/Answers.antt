@@ -1,7 +1,7 @@
 use Rattle.std.proofs.Common.{◌≡◌, refl, ◌∙◌, ap, sym, subst, arith, List, [], ◌∷◌, ℕ, ◌+◌, length, take}
 use Rattle.std.proofs.Math.Seq.{take-length}
 use Rattle.std.specs.Prelude.{fold}
-use Rattle.goods.specs.Pages.{PageFacts, IsSound}
+use Rattle.page_rows.specs.Pages.{PageFacts, IsSound}
 use Rattle.stock.specs.declared.steps.Change.{Change}
 use Rattle.stock.specs.declared.steps.Change.TheVariants as change
 use Rattle.stock.specs.Facts.{facts_of}

@@ -1,6 +1,6 @@
 use Rattle.std.proofs.Common.{rules, sym, refl, ◌∙◌, []}
 use Rattle.std.specs.Prelude.{IsTrue}
-use Rattle.profile.specs.Header.{is_partner}
+use Rattle.definitions.specs.Header.{is_partner}
 use Rattle.store.proofs.Entries.{nothing_legal, one_register}
 use Rattle.store.proofs.replaying.ReplayBook.new.Goals as goal
 

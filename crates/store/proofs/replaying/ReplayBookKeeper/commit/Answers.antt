@@ -1,7 +1,7 @@
 use Rattle.std.proofs.Common.{subst, sym, ap, refl, ◌≡◌, ◌∙◌, ◌++◌, ◌∷◌, [], List}
-use Rattle.profile.specs.declared.rules.Rules.TheVariants.{Two}
-use Rattle.profile.specs.Accepted.{IsLegal}
-use Rattle.profile.specs.Register.{Entry}
+use Rattle.definitions.specs.Rules.{Today}
+use Rattle.definitions.specs.Accepted.{IsLegal}
+use Rattle.definitions.specs.Register.{Entry}
 use Rattle.rules.specs.Written.{Written, written}
 use Rattle.store.specs.Replayed.{Replay, all_written}
 use Rattle.store.proofs.Entries.{written_more, one_register}
@@ -20,7 +20,7 @@ returns-clause-ok c = λ clean L u e next.
     let same = with_row c.self.inside.entries.items c.append.new.entries.items c.args.entry.now L e c.in_ok-append.ensures.ok (view ∙ u.keeps) next.entry in
     record {
       opened = refl;
-      legal = subst (λ W. IsLegal Two W (L ++ e ∷ [])) (sym house) next.legal;
+      legal = subst (λ W. IsLegal Today W (L ++ e ∷ [])) (sym house) next.legal;
       keeps = same;
       stand = tt;
       only = λ M h. one_register c.self.inside.warehouse c.args.self.now.warehouse M (L ++ e ∷ []) h.1 next.legal (sym h.0 ∙ same);

@@ -1,5 +1,5 @@
-use Rattle.profile.specs.Decision.{standing}
-use Rattle.profile.specs.Register.{own}
+use Rattle.definitions.specs.Decision.{standing}
+use Rattle.definitions.specs.Register.{own}
 use Rattle.store.proofs.replaying.ReplayBookKeeper.load.Goals as goal
 
 pub returns-clause-page : goal.returns-clause-page

@@ -1,6 +1,6 @@
 use Rattle.std.proofs.Common.{ap, ◌∙◌, arith, map, take, length, ◌≡◌}
 use Rattle.std.proofs.Math.Seq.{take-length}
-use Rattle.profile.specs.Rows.{shown_row}
+use Rattle.definitions.specs.Rows.{shown_row}
 use Rattle.store.proofs.rows.StockRow.of_each.Goals as goal
 
 pub returns : goal.returns

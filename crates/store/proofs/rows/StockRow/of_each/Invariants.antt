@@ -1,5 +1,5 @@
 use Rattle.std.proofs.Common.{◌≡◌, map, take}
-use Rattle.profile.specs.Rows.{shown_row}
+use Rattle.definitions.specs.Rows.{shown_row}
 use Rattle.store.proofs.rows.StockRow.of_each.Given as goal
 
 abbrev pub invariant-loop-row : goal.invariant-loop-row

@@ -1,0 +1,7 @@
+use Rattle.app.proofs.over_file.work.Goals as goal
+
+pub returns-in-Play : goal.returns-in-Play
+returns-in-Play g c =
+    let played = rw c.deref.ensures at c.play_over.ensures.played in
+    let stopped = rw c.deref.ensures at c.play_over.ensures.stopped in
+    record { worked = rw c.in-Play.is (c.play_over.ensures.goes, (played, stopped)) }

@@ -1,9 +1,0 @@
-use Rattle.std.proofs.Common.{◌≡◌, length}
-use Rattle.doors.specs.Doors as meant
-use Rattle.doors.proofs.texts.trim_start.Given as goal
-
-abbrev pub invariant-loop-first : goal.invariant-loop-first
-invariant-loop-first l = meant.trim_start l.text ≡ meant.trim_start l.fn.text
-
-abbrev pub decreases-loop-first : goal.decreases-loop-first
-decreases-loop-first l = length l.text

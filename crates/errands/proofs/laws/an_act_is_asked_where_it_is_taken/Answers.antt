@@ -1,5 +1,0 @@
-use Rattle.errands.proofs.PathLaws.{deed_found}
-use Rattle.errands.proofs.laws.an_act_is_asked_where_it_is_taken.Goals as goal
-
-pub returns : goal.returns
-returns c = λ who named. let t = c.args.words.now in deed_found t.kind t.who.now t.ticket.now t.number.now who named

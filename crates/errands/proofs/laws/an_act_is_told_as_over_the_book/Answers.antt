@@ -1,5 +1,0 @@
-use Rattle.errands.proofs.ToldLaws.{act_told}
-use Rattle.errands.proofs.laws.an_act_is_told_as_over_the_book.Goals as goal
-
-pub returns : goal.returns
-returns c = act_told c.args.reply.now

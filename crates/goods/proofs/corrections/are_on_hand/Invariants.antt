@@ -1,7 +1,0 @@
-use Rattle.std.proofs.Common.{◌≡◌, take, true}
-use Rattle.std.specs.List.{list_all}
-use Rattle.goods.specs.Steps.{is_on_hand}
-use Rattle.goods.proofs.corrections.are_on_hand.Given as goal
-
-abbrev pub invariant-loop-line : goal.invariant-loop-line
-invariant-loop-line l = list_all (is_on_hand l.rows) (take l.line-index l.lines) ≡ true

@@ -1,7 +1,0 @@
-use Rattle.std.proofs.Common.{◌≡◌, take, false}
-use Rattle.std.specs.List.{list_any}
-use Rattle.goods.specs.Steps.{is_below}
-use Rattle.goods.proofs.corrections.has_below.Given as goal
-
-abbrev pub invariant-loop-line : goal.invariant-loop-line
-invariant-loop-line l = list_any (is_below l.rows) (take l.line-index l.lines) ≡ false

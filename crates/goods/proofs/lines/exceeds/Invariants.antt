@@ -1,7 +1,0 @@
-use Rattle.std.proofs.Common.{◌≡◌, take, false}
-use Rattle.std.specs.List.{list_any}
-use Rattle.goods.specs.Steps.{exceeds}
-use Rattle.goods.proofs.lines.exceeds.Given as goal
-
-abbrev pub invariant-loop-line : goal.invariant-loop-line
-invariant-loop-line l = list_any (exceeds l.reserved) (take l.line-index l.lines) ≡ false

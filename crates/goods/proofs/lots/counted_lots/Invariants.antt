@@ -1,6 +1,0 @@
-use Rattle.std.proofs.Common.{◌≡◌, take}
-use Rattle.goods.specs.Lots.{ranks_of}
-use Rattle.goods.proofs.lots.counted_lots.Given as goal
-
-abbrev pub invariant-loop-i : goal.invariant-loop-i
-invariant-loop-i l = l.lots.items ≡ ranks_of l.item (take l.i l.rows)

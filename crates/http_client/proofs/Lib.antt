@@ -1,0 +1,13 @@
+mod AskingLaws
+pub mod AnyNetwork
+pub mod HaltLaws
+mod ToldLaws
+mod PathLaws
+mod RowsHeard
+mod Filling
+mod Written
+mod Answering
+mod OneAnswer
+mod ReadingBack
+mod RowsTexts
+mod RowsNumbers

@@ -1,5 +1,0 @@
-use Rattle.profile.proofs.PartLaws.{agree-covered}
-use Rattle.profile.proofs.laws.agreement_goes_down.Goals as goal
-
-pub returns : goal.returns
-returns c = λ bigger smaller P Q h e. agree-covered bigger smaller P Q h e

@@ -1,5 +1,0 @@
-use Rattle.profile.proofs.WrittenLaws.{data_written}
-use Rattle.profile.proofs.laws.data_elements_may_be_written.Goals as goal
-
-pub returns : goal.returns
-returns c = λ d es g h last. data_written d es g h last

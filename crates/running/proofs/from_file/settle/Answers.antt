@@ -1,4 +1,0 @@
-use Rattle.running.proofs.from_file.settle.Goals as goal
-
-pub returns : goal.returns
-returns g c = λ opened db may. g.met.S.Store.settled c.args.database.now.store db opened may

@@ -1,8 +1,0 @@
-use Rattle.std.proofs.Common.{◌≡◌}
-use Rattle.running.proofs.waiting.over.Given as goal
-
-abbrev pub invariant-loop-look : goal.invariant-loop-look
-invariant-loop-look g l = record {
-  starts : goal.F-IsAlwaysCallable g l.starts;
-  out : l.out ≡ l.fn.out;
-}

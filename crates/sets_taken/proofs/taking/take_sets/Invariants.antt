@@ -1,7 +1,0 @@
-use Rattle.std.proofs.Common.{take, Some}
-use Rattle.profile.specs.Structure as meant
-use Rattle.sets_taken.specs.Judging.{AreTaken}
-use Rattle.sets_taken.proofs.taking.take_sets.Given as goal
-
-abbrev pub invariant-loop-i : goal.invariant-loop-i
-invariant-loop-i l = AreTaken l.rules l.group.delims (Some l.kind) (take l.i (meant.examined l.group.group)) l.fn.start l.page l.changes.items l.told.items
