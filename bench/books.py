@@ -64,16 +64,11 @@ RULES = "INSERT INTO entry_rules (seq, rules) VALUES (?1, ?2)"
 OUTGOING = "INSERT INTO outgoing (who, n, kind, content, state) VALUES (?1, ?2, ?3, ?4, ?5)"
 STOCK = ("INSERT INTO stock (who, item, lot, since, expected, on_hand, reserved, shipped) VALUES (?1, ?2, ?3, ?4, ?5, ?6, ?7, ?8) "
          "ON CONFLICT (who, item, lot) DO UPDATE SET since = ?4, expected = ?5, on_hand = ?6, reserved = ?7, shipped = ?8")
-ADVICE = ("INSERT INTO advice (who, shipment, ord, is_open) VALUES (?1, ?2, ?3, ?4) "
-          "ON CONFLICT (who, shipment) DO UPDATE SET ord = ?3, is_open = ?4")
-ADVICE_LINE = ("INSERT INTO advice_line (who, shipment, line, item, lot, quantity) VALUES (?1, ?2, ?3, ?4, ?5, ?6) "
-               "ON CONFLICT (who, shipment, line) DO UPDATE SET item = ?4, lot = ?5, quantity = ?6")
-ORDERS = ("INSERT INTO orders (who, ord, is_open, to_name, to_one, to_two, to_place) VALUES (?1, ?2, ?3, ?4, ?5, ?6, ?7) "
-          "ON CONFLICT (who, ord) DO UPDATE SET is_open = ?3, to_name = ?4, to_one = ?5, to_two = ?6, to_place = ?7")
-ORDER_LINE = ("INSERT INTO order_line (who, ord, line, item, lot, quantity) VALUES (?1, ?2, ?3, ?4, ?5, ?6) "
-              "ON CONFLICT (who, ord, line) DO UPDATE SET item = ?4, lot = ?5, quantity = ?6")
-RESERVATION = ("INSERT INTO reservation (who, ord, item, lot, quantity) VALUES (?1, ?2, ?3, ?4, ?5) "
-               "ON CONFLICT (who, ord, item, lot) DO UPDATE SET quantity = ?5")
+ADVICE = "INSERT INTO advice (who, shipment, ord, is_open) VALUES (?1, ?2, ?3, ?4)"
+ADVICE_LINE = "INSERT INTO advice_line (who, shipment, line, item, lot, quantity) VALUES (?1, ?2, ?3, ?4, ?5, ?6)"
+ORDERS = "INSERT INTO orders (who, ord, is_open, to_name, to_one, to_two, to_place) VALUES (?1, ?2, ?3, ?4, ?5, ?6, ?7)"
+ORDER_LINE = "INSERT INTO order_line (who, ord, line, item, lot, quantity) VALUES (?1, ?2, ?3, ?4, ?5, ?6)"
+RESERVATION = "INSERT INTO reservation (who, ord, item, lot, quantity) VALUES (?1, ?2, ?3, ?4, ?5)"
 
 
 class Work:

@@ -9,11 +9,12 @@ Usage: bench/costs.py [--largest N] [PROGRAM]
 It needs cc and Debian's package libsqlite3-dev. For each size a book is filled as by bench/books.py,
 whose interchanges of one line, 2,000 of them (an advice and an order in turn), are then given to the
 program as one `batch`, a `send` for each file, and given again, when all are known. From the processor
-time of a batch that of an opening is taken: a batch whose one line asks for the stock of a stranger.
+time of a batch that of an opening of the book as it is then is taken: a batch whose one line asks for
+the stock of a stranger.
 Beside it bench/statements.c runs the statements of the same commands in one process, prepared once,
 without reading a file, judging or answering; its processor time counts from after its opening.
 
-Then one interchange of a mebibyte, 1,000 advices of 23 lines over 9,200 pairs, is sent to an empty book,
+Then one interchange of a mebibyte, 1,000 advices of 28 lines over 5,600 pairs, is sent to an empty book,
 beside the statements of its rows: each row of `stock` once, and each other row once. The system's time
 for a process counts as its own. Of several runs the least counts. The status is 1 where a file of rows
 differs.
@@ -66,16 +67,16 @@ def of_program(program, book, work, folder):
     at = books.AT[1]
     sends = lines_into(f"{folder}/sends", [f"send {files}/{place:04d}.x12 --at {at}" for place in range(COMMANDS)])
     looks = lines_into(f"{folder}/looks", ["stock ZZ-NONE"])
-    new, known, openings = [], [], []
+    spans = {"new": ([], []), "known": ([], [])}
     for _ in range(RUNS):
         path = books.copied(book, folder, "batch.book")
-        openings.append(spent([program, "batch", looks, "--book", path], 1)[0])
-        for times in (new, known):
+        for openings, times in spans.values():
+            openings.append(spent([program, "batch", looks, "--book", path], 1)[0])
             seconds, printed = spent([program, "batch", sends, "--book", path], 0)
             books.same("answers", printed, "".join(f"{answer}\n" for answer in work.answers if answer))
             times.append(seconds)
     shutil.rmtree(files)
-    return min(new) - min(openings), min(known) - min(openings)
+    return [min(times) - min(openings) for openings, times in spans.values()]
 
 
 def of_sqlite(statements, book, work, folder):

@@ -6,8 +6,8 @@ Usage: bench/engine.py [PROGRAM]   (default: crates/whx12/out/whx12, which `rt r
 
 It needs valgrind, cc and Debian's package libsqlite3-dev. A batch of 200 interchanges of one line (an
 advice and an order in turn) is given to a book of 1,000 entries, then the same batch again, when all are
-known, and an interchange of a mebibyte to an empty book, as in bench/costs.py; what an opening takes is
-taken off. `engine` are the instructions of all calls that the program's own crates make of the kit's
+known, and an interchange of a mebibyte to an empty book, as in bench/costs.py; what an opening of the
+book as it is then takes is taken off, and of C SQLite the preparing of the texts too. `engine` are the instructions of all calls that the program's own crates make of the kit's
 SQLite (crates `sqlite..`), with what these call in turn. So a program whose own crates cost nothing
 would still take that. Beside it bench/statements.c runs the same statements by C SQLite, prepared once.
 Instructions don't depend on what else the machine does.
@@ -79,22 +79,28 @@ def of_batch(program, statements, folder):
     sends = costs.lines_into(f"{folder}/sends", [f"send {files}/{place:04d}.x12 --at {books.AT[1]}" for place in range(COMMANDS)])
     looks = costs.lines_into(f"{folder}/looks", ["stock ZZ-NONE"])
     path = books.copied(book, folder, "batch.book")
-    opening = counted([program, "batch", looks, "--book", path], 1)
     rows = []
     work.list(f"{folder}/writes", True)
     work.list(f"{folder}/known", False)
     other = books.copied(book, folder, "stated.book")
-    with open(f"{folder}/none", "w", encoding="ascii") as file:
-        file.write("O\n")
-    idle = counted([statements, other, f"{folder}/none"], 0)[0]
-    for name, listed in (("new", "writes"), ("known", "known")):
+    for name, listed in (("new", f"{folder}/writes"), ("known", f"{folder}/known")):
+        opening = counted([program, "batch", looks, "--book", path], 1)
         ours = less(counted([program, "batch", sends, "--book", path], 0), opening)
-        theirs = counted([statements, other, f"{folder}/{listed}"], 0)[0] - idle
-        rows.append((name, COMMANDS, ours, theirs))
-    return rows, idle
+        idle = counted([statements, other, opening_of(listed)], 0)[0]
+        rows.append((name, COMMANDS, ours, counted([statements, other, listed], 0)[0] - idle))
+    return rows
 
 
-def of_mebibyte(program, statements, folder, idle):
+def opening_of(listed):
+    """The part of a list up to the end of its opening, which prepares all its texts, as a list of its own."""
+    with open(listed, encoding="ascii") as file:
+        lines = file.read().split("\n")
+    with open(f"{listed}.opening", "w", encoding="ascii") as file:
+        file.write("\n".join(lines[:lines.index("O") + 1]) + "\n")
+    return f"{listed}.opening"
+
+
+def of_mebibyte(program, statements, folder):
     text = f"{folder}/large.x12"
     with open(text, "w", encoding="ascii") as file:
         file.write(large.advices())
@@ -107,6 +113,7 @@ def of_mebibyte(program, statements, folder, idle):
     ours = less(counted([program, "send", text, *books.AT, "--book", path], 0), opening)
     costs.list_of_rows(path, before, f"{folder}/rows")
     other = books.copied(empty, folder, "rows.book")
+    idle = counted([statements, other, opening_of(f"{folder}/rows")], 0)[0]
     return [("mebibyte", 1, ours, counted([statements, other, f"{folder}/rows"], 0)[0] - idle)]
 
 
@@ -116,8 +123,7 @@ def main(words):
     with tempfile.TemporaryDirectory(prefix="whx12-engine-") as folder:
         statements = f"{folder}/statements"
         subprocess.run(["cc", "-O2", "-o", statements, f"{HERE}/statements.c", "-lsqlite3"], check=True)
-        rows, idle = of_batch(program, statements, folder)
-        rows += of_mebibyte(program, statements, folder, idle)
+        rows = of_batch(program, statements, folder) + of_mebibyte(program, statements, folder)
     print("thousands of instructions a command")
     print("          |   program |    engine |         C | program/C | engine/C")
     for name, count, (whole, engine), theirs in rows:

@@ -41,7 +41,7 @@ TABLE = {
         Row("costs", "new command", TENS, f"new command, {ALONE}", C, f"C SQLite, new command, {ALONE}"),
         Row("costs", "known command", TENS, f"known command, {ALONE}", C,
             f"C SQLite, known command, {ALONE}"),
-        Row("costs", "a mebibyte: 1,000 advices of 23 lines", [], "mebibyte of advices", C,
+        Row("costs", "a mebibyte: 1,000 advices of 28 lines", [], "mebibyte of advices", C,
             "C SQLite, mebibyte of advices"),
         Row("lines", "a line of an advice", ["99 lines", "999 lines"], "line of an advice of {}, file"),
         Row("lines", "a line of a count", ["99 lines", "999 lines"], "line of a count of {}, file"),

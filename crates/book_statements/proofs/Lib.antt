@@ -15,6 +15,7 @@ pub mod Beside
 mod Upserts
 mod KeyedInserts
 mod Inserts
+mod NewRows
 pub mod Passing
 mod Freeing
 mod Stating

@@ -17,9 +17,9 @@ use Rattle.sqlite.specs.Order.{Row}
 use Rattle.sqlite.specs.Cast.{cast}
 use Rattle.sqlite.specs.Effect.{IsDatabase}
 use Rattle.sqlite.specs.State.{State, Executes}
-use Rattle.book_statements.specs.Layout.{IsLayout, ours, indexes_on, indexes_of, book_trees, expiry_tree, lot_expiry_at, stock_layout, advice_layout, advice_line_layout, orders_layout, order_line_layout, reservation_layout, lot_expiry_layout}
+use Rattle.book_statements.specs.Layout.{IsLayout, ours, indexes_on, indexes_of, book_trees, expiry_tree, lot_expiry_at, stock_layout, advice_layout, orders_layout, lot_expiry_layout}
 use Rattle.book_statements.specs.Steps.{PutByKey, AreKeyed, WritesInto}
-use Rattle.book_statements.proofs.WritingTexts.{put_stock_text, put_stock_is, put_stock_plain, put_advice_text, put_advice_is, put_advice_plain, put_advice_line_text, put_advice_line_is, put_advice_line_plain, put_orders_text, put_orders_is, put_orders_plain, put_order_line_text, put_order_line_is, put_order_line_plain, put_reservation_text, put_reservation_is, put_reservation_plain, put_expiry_text, source, update_query, on_conflict}
+use Rattle.book_statements.proofs.WritingTexts.{put_stock_text, put_stock_is, put_stock_plain, put_advice_text, put_advice_is, put_advice_plain, put_orders_text, put_orders_is, put_orders_plain, put_expiry_text, source, update_query, on_conflict}
 use Rattle.book_statements.proofs.KeyLemmas.{places}
 use Rattle.book_statements.proofs.Beside.{into_book, under}
 use Rattle.book_statements.proofs.ExpiryTexts.{put_expiry_is, put_expiry_plain, has_key}
@@ -50,7 +50,7 @@ module _ (who item lot : List ℕ) (since expected on_hand reserved shipped : �
 
 -- advice
 module _ (who shipment ord : List ℕ) (is_open : ℤ) where
-  advice_known : IsUpsert advice_layout.name 4 advice_layout.tree 2 4 advice_layout.checks advice_layout.columns (Text who ∷ Text shipment ∷ Text ord ∷ Int is_open ∷ [])
+  pub advice_known : IsUpsert advice_layout.name 4 advice_layout.tree 2 4 advice_layout.checks advice_layout.columns (Text who ∷ Text shipment ∷ Text ord ∷ Int is_open ∷ [])
   advice_known = record {
     guarded = λ new r. refl;
     read = λ db. refl;
@@ -69,30 +69,9 @@ module _ (who shipment ord : List ℕ) (is_open : ℤ) where
       (under (λ s. command_of (understood s put_advice_text) ≡ InsertOr 4 Abort (Values (source 4) (4 + 1)) (on_conflict (places 1 2) (update_query 8 2 4) ∷ [])) old.now.schema lies put_advice_is)
       (under (λ s. IsPlain (understood s put_advice_text)) old.now.schema lies put_advice_plain) live tidy h)
 
--- advice_line
-module _ (who shipment : List ℕ) (line : ℤ) (item lot : List ℕ) (quantity : ℤ) where
-  advice_line_known : IsUpsert advice_line_layout.name 5 advice_line_layout.tree 3 6 advice_line_layout.checks advice_line_layout.columns (Text who ∷ Text shipment ∷ Int line ∷ Text item ∷ Text lot ∷ Int quantity ∷ [])
-  advice_line_known = record {
-    guarded = λ new r. refl;
-    read = λ db. refl;
-    is_key = refl;
-    cast = rw (cast_int line, cast_int quantity) refl;
-    given = refl;
-    named = λ id more. refl;
-    projects = λ id param rest more. refl;
-  }
-
-  pub puts_advice_line : (old new : State) (count : ℕ) → IsLayout old.now.schema → IsDatabase old.now → AreKeyed 3 (old.now.trees 10)
-      → Executes put_advice_line_text (Text who ∷ Text shipment ∷ Int line ∷ Text item ∷ Text lot ∷ Int quantity ∷ []) old new (Ok count) → WritesInto 10 (PutByKey 3 (Text who ∷ Text shipment ∷ Int line ∷ Text item ∷ Text lot ∷ Int quantity ∷ [])) old.now new.now
-  puts_advice_line old new count lies live tidy h =
-      into_book 10 refl (PutByKey 3 (Text who ∷ Text shipment ∷ Int line ∷ Text item ∷ Text lot ∷ Int quantity ∷ [])) old.now new.now lies (puts advice_line_layout.name 5 advice_line_layout.tree 3 6 advice_line_layout.checks advice_line_layout.columns (Text who ∷ Text shipment ∷ Int line ∷ Text item ∷ Text lot ∷ Int quantity ∷ []) advice_line_known put_advice_line_text
-      old new count lies (inr (inr (inr (inr (inr (inl refl)))))) (under (λ s. slice_get s.tables 5 ≡ Some advice_line_layout) old.now.schema lies (λ others. refl))
-      (under (λ s. command_of (understood s put_advice_line_text) ≡ InsertOr 5 Abort (Values (source 6) (6 + 1)) (on_conflict (places 1 3) (update_query 10 3 6) ∷ [])) old.now.schema lies put_advice_line_is)
-      (under (λ s. IsPlain (understood s put_advice_line_text)) old.now.schema lies put_advice_line_plain) live tidy h)
-
 -- orders
 module _ (who ord : List ℕ) (is_open : ℤ) (to_name : Value) (to_one to_two to_place : List ℕ) (to_name_kept : cast kind.Text to_name ≡ to_name) where
-  orders_known : IsUpsert orders_layout.name 6 orders_layout.tree 2 7 orders_layout.checks orders_layout.columns (Text who ∷ Text ord ∷ Int is_open ∷ to_name ∷ Text to_one ∷ Text to_two ∷ Text to_place ∷ [])
+  pub orders_known : IsUpsert orders_layout.name 6 orders_layout.tree 2 7 orders_layout.checks orders_layout.columns (Text who ∷ Text ord ∷ Int is_open ∷ to_name ∷ Text to_one ∷ Text to_two ∷ Text to_place ∷ [])
   orders_known = record {
     guarded = λ new r. refl;
     read = λ db. refl;
@@ -110,48 +89,6 @@ module _ (who ord : List ℕ) (is_open : ℤ) (to_name : Value) (to_one to_two t
       old new count lies (inr (inr (inr (inr (inr (inr (inl refl))))))) (under (λ s. slice_get s.tables 6 ≡ Some orders_layout) old.now.schema lies (λ others. refl))
       (under (λ s. command_of (understood s put_orders_text) ≡ InsertOr 6 Abort (Values (source 7) (7 + 1)) (on_conflict (places 1 2) (update_query 12 2 7) ∷ [])) old.now.schema lies put_orders_is)
       (under (λ s. IsPlain (understood s put_orders_text)) old.now.schema lies put_orders_plain) live tidy h)
-
--- order_line
-module _ (who ord : List ℕ) (line : ℤ) (item : List ℕ) (lot : Value) (quantity : ℤ) (lot_kept : cast kind.Text lot ≡ lot) where
-  order_line_known : IsUpsert order_line_layout.name 7 order_line_layout.tree 3 6 order_line_layout.checks order_line_layout.columns (Text who ∷ Text ord ∷ Int line ∷ Text item ∷ lot ∷ Int quantity ∷ [])
-  order_line_known = record {
-    guarded = λ new r. refl;
-    read = λ db. refl;
-    is_key = refl;
-    cast = rw (cast_int line, cast_int quantity, lot_kept) refl;
-    given = refl;
-    named = λ id more. refl;
-    projects = λ id param rest more. refl;
-  }
-
-  pub puts_order_line : (old new : State) (count : ℕ) → IsLayout old.now.schema → IsDatabase old.now → AreKeyed 3 (old.now.trees 14)
-      → Executes put_order_line_text (Text who ∷ Text ord ∷ Int line ∷ Text item ∷ lot ∷ Int quantity ∷ []) old new (Ok count) → WritesInto 14 (PutByKey 3 (Text who ∷ Text ord ∷ Int line ∷ Text item ∷ lot ∷ Int quantity ∷ [])) old.now new.now
-  puts_order_line old new count lies live tidy h =
-      into_book 14 refl (PutByKey 3 (Text who ∷ Text ord ∷ Int line ∷ Text item ∷ lot ∷ Int quantity ∷ [])) old.now new.now lies (puts order_line_layout.name 7 order_line_layout.tree 3 6 order_line_layout.checks order_line_layout.columns (Text who ∷ Text ord ∷ Int line ∷ Text item ∷ lot ∷ Int quantity ∷ []) order_line_known put_order_line_text
-      old new count lies (inr (inr (inr (inr (inr (inr (inr (inl refl)))))))) (under (λ s. slice_get s.tables 7 ≡ Some order_line_layout) old.now.schema lies (λ others. refl))
-      (under (λ s. command_of (understood s put_order_line_text) ≡ InsertOr 7 Abort (Values (source 6) (6 + 1)) (on_conflict (places 1 3) (update_query 14 3 6) ∷ [])) old.now.schema lies put_order_line_is)
-      (under (λ s. IsPlain (understood s put_order_line_text)) old.now.schema lies put_order_line_plain) live tidy h)
-
--- reservation
-module _ (who ord item lot : List ℕ) (quantity : ℤ) where
-  reservation_known : IsUpsert reservation_layout.name 8 reservation_layout.tree 4 5 reservation_layout.checks reservation_layout.columns (Text who ∷ Text ord ∷ Text item ∷ Text lot ∷ Int quantity ∷ [])
-  reservation_known = record {
-    guarded = λ new r. refl;
-    read = λ db. refl;
-    is_key = refl;
-    cast = rw (cast_int quantity) refl;
-    given = refl;
-    named = λ id more. refl;
-    projects = λ id param rest more. refl;
-  }
-
-  pub puts_reservation : (old new : State) (count : ℕ) → IsLayout old.now.schema → IsDatabase old.now → AreKeyed 4 (old.now.trees 16)
-      → Executes put_reservation_text (Text who ∷ Text ord ∷ Text item ∷ Text lot ∷ Int quantity ∷ []) old new (Ok count) → WritesInto 16 (PutByKey 4 (Text who ∷ Text ord ∷ Text item ∷ Text lot ∷ Int quantity ∷ [])) old.now new.now
-  puts_reservation old new count lies live tidy h =
-      into_book 16 refl (PutByKey 4 (Text who ∷ Text ord ∷ Text item ∷ Text lot ∷ Int quantity ∷ [])) old.now new.now lies (puts reservation_layout.name 8 reservation_layout.tree 4 5 reservation_layout.checks reservation_layout.columns (Text who ∷ Text ord ∷ Text item ∷ Text lot ∷ Int quantity ∷ []) reservation_known put_reservation_text
-      old new count lies (inr (inr (inr (inr (inr (inr (inr (inr (inl refl))))))))) (under (λ s. slice_get s.tables 8 ≡ Some reservation_layout) old.now.schema lies (λ others. refl))
-      (under (λ s. command_of (understood s put_reservation_text) ≡ InsertOr 8 Abort (Values (source 5) (5 + 1)) (on_conflict (places 1 4) (update_query 16 4 5) ∷ [])) old.now.schema lies put_reservation_is)
-      (under (λ s. IsPlain (understood s put_reservation_text)) old.now.schema lies put_reservation_plain) live tidy h)
 
 -- lot_expiry, wherever it stands
 module _ (who item lot expiry : List ℕ) where

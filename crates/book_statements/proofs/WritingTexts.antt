@@ -84,19 +84,6 @@ put_advice_is others = command_is (beside others) put_advice_text 4 _ (put_advic
 pub put_advice_plain : (others : Others) → IsPlain (understood (beside others) put_advice_text)
 put_advice_plain others = plain_is (beside others) put_advice_text 4 _ (put_advice_compiles others)
 
-abbrev pub put_advice_line_text : List ℕ
-put_advice_line_text = codes "INSERT INTO advice_line (who, shipment, line, item, lot, quantity) VALUES (?1, ?2, ?3, ?4, ?5, ?6) ON CONFLICT (who, shipment, line) DO UPDATE SET item = ?4, lot = ?5, quantity = ?6"
-
-put_advice_line_compiles : (others : Others) → Compiles (beside others) put_advice_line_text 6 (InsertOr 5 Abort (Values (source 6) 7) (on_conflict (1 ∷ 2 ∷ 3 ∷ []) (update_query 10 3 6) ∷ []))
-unfolding everything
-put_advice_line_compiles others = refl
-
-pub put_advice_line_is : (others : Others) → command_of (understood (beside others) put_advice_line_text) ≡ InsertOr 5 Abort (Values (source 6) 7) (on_conflict (1 ∷ 2 ∷ 3 ∷ []) (update_query 10 3 6) ∷ [])
-put_advice_line_is others = command_is (beside others) put_advice_line_text 6 _ (put_advice_line_compiles others)
-
-pub put_advice_line_plain : (others : Others) → IsPlain (understood (beside others) put_advice_line_text)
-put_advice_line_plain others = plain_is (beside others) put_advice_line_text 6 _ (put_advice_line_compiles others)
-
 abbrev pub put_orders_text : List ℕ
 put_orders_text = codes "INSERT INTO orders (who, ord, is_open, to_name, to_one, to_two, to_place) VALUES (?1, ?2, ?3, ?4, ?5, ?6, ?7) ON CONFLICT (who, ord) DO UPDATE SET is_open = ?3, to_name = ?4, to_one = ?5, to_two = ?6, to_place = ?7"
 
@@ -109,32 +96,6 @@ put_orders_is others = command_is (beside others) put_orders_text 7 _ (put_order
 
 pub put_orders_plain : (others : Others) → IsPlain (understood (beside others) put_orders_text)
 put_orders_plain others = plain_is (beside others) put_orders_text 7 _ (put_orders_compiles others)
-
-abbrev pub put_order_line_text : List ℕ
-put_order_line_text = codes "INSERT INTO order_line (who, ord, line, item, lot, quantity) VALUES (?1, ?2, ?3, ?4, ?5, ?6) ON CONFLICT (who, ord, line) DO UPDATE SET item = ?4, lot = ?5, quantity = ?6"
-
-put_order_line_compiles : (others : Others) → Compiles (beside others) put_order_line_text 6 (InsertOr 7 Abort (Values (source 6) 7) (on_conflict (1 ∷ 2 ∷ 3 ∷ []) (update_query 14 3 6) ∷ []))
-unfolding everything
-put_order_line_compiles others = refl
-
-pub put_order_line_is : (others : Others) → command_of (understood (beside others) put_order_line_text) ≡ InsertOr 7 Abort (Values (source 6) 7) (on_conflict (1 ∷ 2 ∷ 3 ∷ []) (update_query 14 3 6) ∷ [])
-put_order_line_is others = command_is (beside others) put_order_line_text 6 _ (put_order_line_compiles others)
-
-pub put_order_line_plain : (others : Others) → IsPlain (understood (beside others) put_order_line_text)
-put_order_line_plain others = plain_is (beside others) put_order_line_text 6 _ (put_order_line_compiles others)
-
-abbrev pub put_reservation_text : List ℕ
-put_reservation_text = codes "INSERT INTO reservation (who, ord, item, lot, quantity) VALUES (?1, ?2, ?3, ?4, ?5) ON CONFLICT (who, ord, item, lot) DO UPDATE SET quantity = ?5"
-
-put_reservation_compiles : (others : Others) → Compiles (beside others) put_reservation_text 5 (InsertOr 8 Abort (Values (source 5) 6) (on_conflict (1 ∷ 2 ∷ 3 ∷ 4 ∷ []) (update_query 16 4 5) ∷ []))
-unfolding everything
-put_reservation_compiles others = refl
-
-pub put_reservation_is : (others : Others) → command_of (understood (beside others) put_reservation_text) ≡ InsertOr 8 Abort (Values (source 5) 6) (on_conflict (1 ∷ 2 ∷ 3 ∷ 4 ∷ []) (update_query 16 4 5) ∷ [])
-put_reservation_is others = command_is (beside others) put_reservation_text 5 _ (put_reservation_compiles others)
-
-pub put_reservation_plain : (others : Others) → IsPlain (understood (beside others) put_reservation_text)
-put_reservation_plain others = plain_is (beside others) put_reservation_text 5 _ (put_reservation_compiles others)
 
 abbrev pub put_expiry_text : List ℕ
 put_expiry_text = codes "INSERT INTO lot_expiry (who, item, lot, expiry) VALUES (?1, ?2, ?3, ?4) ON CONFLICT (who, item, lot) DO UPDATE SET expiry = ?4"
@@ -182,6 +143,71 @@ insert_outgoing_plain others = plain_is (beside others) insert_outgoing_text 5 _
 
 abbrev pub insert_rules_text : List ℕ
 insert_rules_text = codes "INSERT INTO entry_rules (seq, rules) VALUES (?1, ?2)"
+
+abbrev pub insert_advice_text : List ℕ
+insert_advice_text = codes "INSERT INTO advice (who, shipment, ord, is_open) VALUES (?1, ?2, ?3, ?4)"
+
+insert_advice_compiles : (others : Others) → Compiles (beside others) insert_advice_text 4 (Insert 4 (Values (source 4) 5))
+unfolding everything
+insert_advice_compiles others = refl
+
+pub insert_advice_is : (others : Others) → command_of (understood (beside others) insert_advice_text) ≡ Insert 4 (Values (source 4) 5)
+insert_advice_is others = command_is (beside others) insert_advice_text 4 _ (insert_advice_compiles others)
+
+pub insert_advice_plain : (others : Others) → IsPlain (understood (beside others) insert_advice_text)
+insert_advice_plain others = plain_is (beside others) insert_advice_text 4 _ (insert_advice_compiles others)
+
+abbrev pub insert_advice_line_text : List ℕ
+insert_advice_line_text = codes "INSERT INTO advice_line (who, shipment, line, item, lot, quantity) VALUES (?1, ?2, ?3, ?4, ?5, ?6)"
+
+insert_advice_line_compiles : (others : Others) → Compiles (beside others) insert_advice_line_text 6 (Insert 5 (Values (source 6) 7))
+unfolding everything
+insert_advice_line_compiles others = refl
+
+pub insert_advice_line_is : (others : Others) → command_of (understood (beside others) insert_advice_line_text) ≡ Insert 5 (Values (source 6) 7)
+insert_advice_line_is others = command_is (beside others) insert_advice_line_text 6 _ (insert_advice_line_compiles others)
+
+pub insert_advice_line_plain : (others : Others) → IsPlain (understood (beside others) insert_advice_line_text)
+insert_advice_line_plain others = plain_is (beside others) insert_advice_line_text 6 _ (insert_advice_line_compiles others)
+
+abbrev pub insert_orders_text : List ℕ
+insert_orders_text = codes "INSERT INTO orders (who, ord, is_open, to_name, to_one, to_two, to_place) VALUES (?1, ?2, ?3, ?4, ?5, ?6, ?7)"
+
+insert_orders_compiles : (others : Others) → Compiles (beside others) insert_orders_text 7 (Insert 6 (Values (source 7) 8))
+unfolding everything
+insert_orders_compiles others = refl
+
+pub insert_orders_is : (others : Others) → command_of (understood (beside others) insert_orders_text) ≡ Insert 6 (Values (source 7) 8)
+insert_orders_is others = command_is (beside others) insert_orders_text 7 _ (insert_orders_compiles others)
+
+pub insert_orders_plain : (others : Others) → IsPlain (understood (beside others) insert_orders_text)
+insert_orders_plain others = plain_is (beside others) insert_orders_text 7 _ (insert_orders_compiles others)
+
+abbrev pub insert_order_line_text : List ℕ
+insert_order_line_text = codes "INSERT INTO order_line (who, ord, line, item, lot, quantity) VALUES (?1, ?2, ?3, ?4, ?5, ?6)"
+
+insert_order_line_compiles : (others : Others) → Compiles (beside others) insert_order_line_text 6 (Insert 7 (Values (source 6) 7))
+unfolding everything
+insert_order_line_compiles others = refl
+
+pub insert_order_line_is : (others : Others) → command_of (understood (beside others) insert_order_line_text) ≡ Insert 7 (Values (source 6) 7)
+insert_order_line_is others = command_is (beside others) insert_order_line_text 6 _ (insert_order_line_compiles others)
+
+pub insert_order_line_plain : (others : Others) → IsPlain (understood (beside others) insert_order_line_text)
+insert_order_line_plain others = plain_is (beside others) insert_order_line_text 6 _ (insert_order_line_compiles others)
+
+abbrev pub insert_reservation_text : List ℕ
+insert_reservation_text = codes "INSERT INTO reservation (who, ord, item, lot, quantity) VALUES (?1, ?2, ?3, ?4, ?5)"
+
+insert_reservation_compiles : (others : Others) → Compiles (beside others) insert_reservation_text 5 (Insert 8 (Values (source 5) 6))
+unfolding everything
+insert_reservation_compiles others = refl
+
+pub insert_reservation_is : (others : Others) → command_of (understood (beside others) insert_reservation_text) ≡ Insert 8 (Values (source 5) 6)
+insert_reservation_is others = command_is (beside others) insert_reservation_text 5 _ (insert_reservation_compiles others)
+
+pub insert_reservation_plain : (others : Others) → IsPlain (understood (beside others) insert_reservation_text)
+insert_reservation_plain others = plain_is (beside others) insert_reservation_text 5 _ (insert_reservation_compiles others)
 
 -- An update and a delete.
 

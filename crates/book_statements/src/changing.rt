@@ -6,17 +6,17 @@ ghost use Rattle.book_statements.specs.Leading.{Leads, puts_of};
 ghost use Rattle.book_statements.specs.Writing.{WroteIn};
 
 use crate::calls::Calls;
-use crate::recording::set_state;
-use crate::writing::{
-    free_reservations, put_advice, put_advice_line, put_expiry, put_order, put_order_line,
-    put_reservation, put_stock,
+use crate::inserting::{
+    insert_advice, insert_advice_line, insert_order, insert_order_line, insert_reservation,
 };
+use crate::recording::set_state;
+use crate::writing::{free_reservations, put_advice, put_expiry, put_order, put_stock};
 use rules::{Change, KnownAdvice, KnownOrder, Row};
 use sqlite::{Alter, Transaction};
 use store::Fault;
 
-/// Puts the lines of an advice.
-fn put_advice_lines<'a, S: Alter>(
+/// Adds the lines of an advice.
+fn insert_advice_lines<'a, S: Alter>(
     tx: &mut Transaction<'_, S>,
     calls: &mut Calls,
     who: &'a [u8],
@@ -35,13 +35,13 @@ fn put_advice_lines<'a, S: Alter>(
             return Err(calls.refuse());
         };
         n = next;
-        put_advice_line(tx, calls, who, shipment, n, line)?;
+        insert_advice_line(tx, calls, who, shipment, n, line)?;
     }
     Ok(())
 }
 
-/// Puts the lines of an order.
-fn put_order_lines<'a, S: Alter>(
+/// Adds the lines of an order.
+fn insert_order_lines<'a, S: Alter>(
     tx: &mut Transaction<'_, S>,
     calls: &mut Calls,
     who: &'a [u8],
@@ -59,13 +59,13 @@ fn put_order_lines<'a, S: Alter>(
             return Err(calls.refuse());
         };
         n = next;
-        put_order_line(tx, calls, who, number, n, line)?;
+        insert_order_line(tx, calls, who, number, n, line)?;
     }
     Ok(())
 }
 
-/// Puts what is reserved for an order.
-fn put_reservations<'a, S: Alter>(
+/// Adds what is reserved for an order.
+fn insert_reservations<'a, S: Alter>(
     tx: &mut Transaction<'_, S>,
     calls: &mut Calls,
     who: &'a [u8],
@@ -78,7 +78,7 @@ fn put_reservations<'a, S: Alter>(
 {
     let number = order.number.as_slice();
     for line in &order.reserved {
-        put_reservation(tx, calls, who, number, line)?;
+        insert_reservation(tx, calls, who, number, line)?;
     }
     Ok(())
 }
@@ -102,7 +102,7 @@ fn apply_row<'a, S: Alter>(
     }
 }
 
-/// Puts an advice, and its lines where it is opened.
+/// Adds an advice that is opened, with its lines, or closes the one that is there.
 fn apply_advice<'a, S: Alter>(
     tx: &mut Transaction<'_, S>,
     calls: &mut Calls,
@@ -114,16 +114,16 @@ fn apply_advice<'a, S: Alter>(
         → Leads (advice_changes w advice.now) old.now new.now)
         tx.old.conn.now tx.new.conn.now calls.old calls.new result }
 {
-    put_advice(tx, calls, who, advice)?;
     if advice.is_open() {
-        put_advice_lines(tx, calls, who, advice)
+        insert_advice(tx, calls, who, advice)?;
+        insert_advice_lines(tx, calls, who, advice)
     } else {
-        Ok(())
+        put_advice(tx, calls, who, advice)
     }
 }
 
-/// Puts an order: where it is opened with its lines and what is reserved for it, else nothing is
-/// reserved for it any more.
+/// Adds an order that is opened, with its lines and what is reserved for it, or closes the one that
+/// is there: nothing is reserved for it any more.
 fn apply_order<'a, S: Alter>(
     tx: &mut Transaction<'_, S>,
     calls: &mut Calls,
@@ -135,11 +135,12 @@ fn apply_order<'a, S: Alter>(
         → Leads (order_changes w order.now) old.now new.now)
         tx.old.conn.now tx.new.conn.now calls.old calls.new result }
 {
-    put_order(tx, calls, who, order)?;
     if order.is_open {
-        put_order_lines(tx, calls, who, order)?;
-        put_reservations(tx, calls, who, order)
+        insert_order(tx, calls, who, order)?;
+        insert_order_lines(tx, calls, who, order)?;
+        insert_reservations(tx, calls, who, order)
     } else {
+        put_order(tx, calls, who, order)?;
         free_reservations(tx, calls, who, &order.number)
     }
 }

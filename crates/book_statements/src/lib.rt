@@ -8,6 +8,7 @@ mod appending;
 mod calls;
 mod carrying;
 mod changing;
+mod inserting;
 mod making;
 mod names;
 mod recording;

@@ -142,7 +142,7 @@ pub(crate) fn put_expiry<'a, S: Alter>(
 }
 
 // The columns of a row of `advice`.
-fn advice_params<'a>(who: &'a [u8], advice: &'a KnownAdvice) -> [ValueRef<'a>; 4]
+pub(crate) fn advice_params<'a>(who: &'a [u8], advice: &'a KnownAdvice) -> [ValueRef<'a>; 4]
     ensures { bound result ≡ values (cells.Text who.now ∷ cells.advice_cells advice.now) }
 {
     [
@@ -174,50 +174,8 @@ pub(crate) fn put_advice<'a, S: Alter>(
     )
 }
 
-// The columns of a row of `advice_line`.
-fn advice_line_params<'a>(
-    who: &'a [u8],
-    shipment: &'a [u8],
-    n: u32,
-    line: &'a Goods,
-) -> [ValueRef<'a>; 6]
-    ensures { bound result ≡ values (advice_line_row who.now shipment.now n line.now) }
-{
-    [
-        ValueRef::Text(who),
-        ValueRef::Text(shipment),
-        ValueRef::Int(i64::from(n)),
-        ValueRef::Text(&line.item),
-        ValueRef::Text(&line.lot),
-        ValueRef::Int(i64::from(line.quantity)),
-    ]
-}
-
-/// Puts a row of `advice_line`: a line of an advice, with its number.
-pub(crate) fn put_advice_line<'a, S: Alter>(
-    tx: &mut Transaction<'_, S>,
-    calls: &mut Calls,
-    who: &'a [u8],
-    shipment: &'a [u8],
-    n: u32,
-    line: &'a Goods,
-) -> Result<(), Fault>
-    ensures same_reference { tx.new.conn.ghost_name ≡ tx.old.conn.ghost_name }
-    ensures wrote { WroteIn S.Store (λ old new. Leads
-        (Puts (codes "advice_line") (advice_line_row who.now shipment.now n line.now) ∷ []) old.now
-        new.now)
-        tx.old.conn.now tx.new.conn.now calls.old calls.new result }
-{
-    run(
-        tx,
-        calls,
-        "INSERT INTO advice_line (who, shipment, line, item, lot, quantity) VALUES (?1, ?2, ?3, ?4, ?5, ?6) ON CONFLICT (who, shipment, line) DO UPDATE SET item = ?4, lot = ?5, quantity = ?6",
-        &advice_line_params(who, shipment, n, line),
-    )
-}
-
 // The columns of a row of `orders`.
-fn orders_params<'a>(who: &'a [u8], order: &'a KnownOrder) -> [ValueRef<'a>; 7]
+pub(crate) fn orders_params<'a>(who: &'a [u8], order: &'a KnownOrder) -> [ValueRef<'a>; 7]
     ensures { bound result ≡ values (cells.Text who.now ∷ cells.orders_cells order.now) }
 {
     match &order.address {
@@ -260,87 +218,6 @@ pub(crate) fn put_order<'a, S: Alter>(
         calls,
         "INSERT INTO orders (who, ord, is_open, to_name, to_one, to_two, to_place) VALUES (?1, ?2, ?3, ?4, ?5, ?6, ?7) ON CONFLICT (who, ord) DO UPDATE SET is_open = ?3, to_name = ?4, to_one = ?5, to_two = ?6, to_place = ?7",
         &orders_params(who, order),
-    )
-}
-
-// The columns of a row of `order_line`.
-fn order_line_params<'a>(
-    who: &'a [u8],
-    order: &'a [u8],
-    n: u32,
-    line: &'a KnownLine,
-) -> [ValueRef<'a>; 6]
-    ensures { bound result ≡ values (order_line_row who.now order.now n line.now) }
-{
-    let lot = match &line.pin {
-        None => ValueRef::Null,
-        Some(lot) => ValueRef::Text(lot),
-    };
-    [
-        ValueRef::Text(who),
-        ValueRef::Text(order),
-        ValueRef::Int(i64::from(n)),
-        ValueRef::Text(&line.item),
-        lot,
-        ValueRef::Int(i64::from(line.quantity)),
-    ]
-}
-
-/// Puts a row of `order_line`: a line of an order, with its number.
-pub(crate) fn put_order_line<'a, S: Alter>(
-    tx: &mut Transaction<'_, S>,
-    calls: &mut Calls,
-    who: &'a [u8],
-    order: &'a [u8],
-    n: u32,
-    line: &'a KnownLine,
-) -> Result<(), Fault>
-    ensures same_reference { tx.new.conn.ghost_name ≡ tx.old.conn.ghost_name }
-    ensures wrote { WroteIn S.Store (λ old new. Leads
-        (Puts (codes "order_line") (order_line_row who.now order.now n line.now) ∷ []) old.now
-        new.now)
-        tx.old.conn.now tx.new.conn.now calls.old calls.new result }
-{
-    run(
-        tx,
-        calls,
-        "INSERT INTO order_line (who, ord, line, item, lot, quantity) VALUES (?1, ?2, ?3, ?4, ?5, ?6) ON CONFLICT (who, ord, line) DO UPDATE SET item = ?4, lot = ?5, quantity = ?6",
-        &order_line_params(who, order, n, line),
-    )
-}
-
-// The columns of a row of `reservation`.
-fn reservation_params<'a>(who: &'a [u8], order: &'a [u8], line: &'a Goods) -> [ValueRef<'a>; 5]
-    ensures { bound result ≡ values (reservation_row who.now order.now line.now) }
-{
-    [
-        ValueRef::Text(who),
-        ValueRef::Text(order),
-        ValueRef::Text(&line.item),
-        ValueRef::Text(&line.lot),
-        ValueRef::Int(i64::from(line.quantity)),
-    ]
-}
-
-/// Puts a row of `reservation`: what is reserved of a pair for an order.
-pub(crate) fn put_reservation<'a, S: Alter>(
-    tx: &mut Transaction<'_, S>,
-    calls: &mut Calls,
-    who: &'a [u8],
-    order: &'a [u8],
-    line: &'a Goods,
-) -> Result<(), Fault>
-    ensures same_reference { tx.new.conn.ghost_name ≡ tx.old.conn.ghost_name }
-    ensures wrote { WroteIn S.Store (λ old new. Leads
-        (Puts (codes "reservation") (reservation_row who.now order.now line.now) ∷ []) old.now
-        new.now)
-        tx.old.conn.now tx.new.conn.now calls.old calls.new result }
-{
-    run(
-        tx,
-        calls,
-        "INSERT INTO reservation (who, ord, item, lot, quantity) VALUES (?1, ?2, ?3, ?4, ?5) ON CONFLICT (who, ord, item, lot) DO UPDATE SET quantity = ?5",
-        &reservation_params(who, order, line),
     )
 }
 

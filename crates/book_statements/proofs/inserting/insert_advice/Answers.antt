@@ -1,0 +1,14 @@
+use Rattle.std.proofs.Common.{Ok, subst}
+use Rattle.sqlite.specs.Held.{state}
+use Rattle.sqlite.specs.State.{Executes}
+use Rattle.book_statements.proofs.Writes.{wrote_as}
+use Rattle.book_statements.proofs.WritingTexts.{insert_advice_text}
+use Rattle.book_statements.proofs.Led.{advice_added}
+use Rattle.book_statements.proofs.inserting.insert_advice.Goals as goal
+
+pub returns-clause-wrote : goal.returns-clause-wrote
+returns-clause-wrote g c =
+    let old = state g.S.Store c.args.tx.now.conn.now in
+    let new = state g.S.Store c.run.new.tx.conn.now in
+    wrote_as old new _ _ c.run.result c.run.ensures.wrote (λ ran. advice_added old new ran.count c.args.who.now c.args.advice.now.shipment c.args.advice.now.order _
+    (subst (λ p. Executes insert_advice_text p old new (Ok ran.count)) c.advice_params.ensures ran.executes))

@@ -1,0 +1,14 @@
+use Rattle.std.proofs.Common.{Ok, subst}
+use Rattle.sqlite.specs.Held.{state}
+use Rattle.sqlite.specs.State.{Executes}
+use Rattle.book_statements.proofs.Writes.{wrote_as}
+use Rattle.book_statements.proofs.WritingTexts.{insert_order_line_text}
+use Rattle.book_statements.proofs.Led.{order_line_led}
+use Rattle.book_statements.proofs.inserting.insert_order_line.Goals as goal
+
+pub returns-clause-wrote : goal.returns-clause-wrote
+returns-clause-wrote g c =
+    let old = state g.S.Store c.args.tx.now.conn.now in
+    let new = state g.S.Store c.run.new.tx.conn.now in
+    wrote_as old new _ _ c.run.result c.run.ensures.wrote (λ ran. order_line_led old new ran.count c.args.who.now c.args.order.now c.args.n c.args.line.now.item c.args.line.now.pin c.args.line.now.quantity
+    (subst (λ p. Executes insert_order_line_text p old new (Ok ran.count)) c.order_line_params.ensures ran.executes))
