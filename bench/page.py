@@ -17,9 +17,16 @@ without a head, opens the page through a relay that can lose an answer. The part
             a fault: the page gives the same act again under the same ticket, says so, and each is done once
   clerks    two browsers at one order: the second is told that it was picked, and nothing more goes out
   texts     names and addresses with tags, quotes and each printable byte are shown as they are, and no element comes of them
+  day       what Today tells: pieces that came in and went out, documents that were refused, sets that were rejected, the last acts; where
+            the book is as it was, a view that is shown again asks for nothing but that
+  looks     at 360 and 1,920 pixels, light and dark: nothing is wider than the screen, texts have a contrast of 4.5, whatever is pressed or
+            filled in has a name and a size of 24 pixels
   bars      the Code 128 bars of a printed picking sheet, read by zbarimg, where that and pdftoppm are there
   types     the types in the comments of the scripts, read by tsc, where that is there
-  large     100 depositors with 10,000 pairs: the first view within a second
+  large     100 depositors with 10,000 pairs: the first view within a second, all of it within 3 seconds of what the browser takes
+            for the bare requests
+  long      one depositor with 10,000 pairs, whose stock comes from this script: stock and recount, and no stretch of a second without an
+            answer to keys
 
 In each the console has no error (but for requests that are meant to fail), and nothing is asked of another origin. Status 1 where
 something differs; the folder is then kept.
@@ -53,7 +60,7 @@ RUN = {
     "shows": "the clerks' page in Chromium: acts are those by command, lost answers come under the same ticket, texts stay texts",
     "needs": ["program", "chromium", "chromedriver"],
     "words": [""],
-    "minutes": 4,
+    "minutes": 7,
 }
 AT = "2026-03-02T10:20"
 DAY, PICTURES = f"{TOP}/examples/day", f"{TOP}/docs/pictures"
@@ -244,6 +251,12 @@ class Page:
         self.browser.get("about:blank")
         self.browser.get(f"{self.relay.base}#{view}")
         self.until(view, "document.getElementById('view')?.getAttribute('aria-busy') === 'false'")
+
+    def go(self, view):
+        """Another view of the page that is there."""
+        self.browser.execute_script(f"location.hash = {json.dumps(view)}")
+        title = view.partition("/")[0].capitalize()
+        self.until(view, f"document.title.startsWith('{title}') && document.getElementById('view').getAttribute('aria-busy') === 'false'")
 
     def says(self):
         return self.asked("document.body.innerText")
@@ -449,6 +462,93 @@ def clerks(program, folder, is_proxy):
     return "the second clerk at an order is told, and one 945 goes out"
 
 
+# An interchange that refuses document 2, a 944, made of one that accepts a 945; and an advice with a wrong sum.
+REFUSING = [(b"000000103", b"000000104"), (b"AK1*SW*4", b"AK1*RE*2"), (b"AK2*945", b"AK2*944"), (b"AK5*A", b"AK5*R*5"), (b"AK9*A*1*1*1", b"AK9*R*1*1*0")]
+WRONG_SUM = [(b"000000001", b"000000003"), (b"TR-9", b"TR-10"), (b"W03*500", b"W03*501")]
+ASKED = "performance.getEntriesByType('resource').map(it => new URL(it.name).pathname).filter(it => !['/health', '/depositors'].includes(it))"
+
+
+def changed(text, changes):
+    """A text with these changes, each of which changes something."""
+    for old, new in changes:
+        same(f"{old} is there", old in text, True)
+        text = text.replace(old, new)
+    return text
+
+
+def day(program, folder, is_proxy):
+    """What Today tells of a day."""
+    house = new_house(program, folder, "day")
+    house.at("count", "ZZ-HOLM", "CNT-1", "SH-2041", "holm-count.csv")
+    house.at("send", "holm-orders.x12")
+    house.at("pick", "ZZ-HOLM", "PCK-1", "SO-551", "pick-551.csv")
+    house.start()
+    for name, changes in (("holm-ack.x12", REFUSING), ("tearoom-advice.x12", WRONG_SUM)):
+        lib.once(LOOPBACK, house.port, lib.post_of(changed(day_in(name), changes)))
+    page = Page(Relay(house, is_proxy), "AB", fixed=True)
+    page.open("today")
+    told = " ".join(page.says().split())
+    shipped = sum(int(line[2]) for line in sheet_in("pick-551.csv"))
+    for words in ("1 delivery to count", "1 order to pick", "374 came in", f"{shipped} went out", "ZZ-HOLM refused 944 number 2: call them.",
+                  "ZZ-TEAROOM: answer 2 of today rejects 1 of 1 set: tell them.", "Count of SH-2041 for ZZ-HOLM", "Pick of SO-551 for ZZ-HOLM"):
+        same(f"{words!r} in {told!r}", words in told, True)
+    before = page.asked(ASKED)
+    page.go("receiving")
+    page.go("today")
+    same("what is asked again", page.asked(ASKED)[len(before):], [])
+    same("the view again", " ".join(page.says().split()), told)
+    house.post(day_in("tearoom-order.x12"))
+    page.go("picking")
+    page.go("today")
+    page.until("the new order", "document.body.innerText.includes('TO-3')")
+    same("what is asked of ZZ-HOLM", [it for it in page.asked(ASKED)[len(before):] if "ZZ-HOLM" in it], ["/open/ZZ-HOLM", "/outbox/ZZ-HOLM"])
+    page.end()
+    house.stop()
+    return f"Today tells of the day, and asks again for what changed: {len(before)} requests first"
+
+
+LOOKS = r"""
+  const rgb = (text) => text.match(/[\d.]+/g).map(Number);
+  const part = (v) => (v / 255 <= 0.03928 ? v / 255 / 12.92 : ((v / 255 + 0.055) / 1.055) ** 2.4);
+  const light = ([r, g, b]) => 0.2126 * part(r) + 0.7152 * part(g) + 0.0722 * part(b);
+  const back = (it) => { for (; it; it = it.parentElement) { const is = rgb(getComputedStyle(it).backgroundColor); if ((is[3] ?? 1) > 0.99) return is; } };
+  const contrast = (it) => { const [a, b] = [light(rgb(getComputedStyle(it).color)), light(back(it))]; return (Math.max(a, b) + 0.05) / (Math.min(a, b) + 0.05); };
+  const shown = [...document.querySelectorAll('body *')].filter((it) => it.checkVisibility() && !it.disabled && !it.closest('svg, .skip'));
+  const texts = shown.filter((it) => it.localName === 'input' || [...it.childNodes].some((one) => one.nodeType === 3 && one.data.trim()));
+  const pressed = shown.filter((it) => it.matches('input, select, button, a, summary'));
+  const isNamed = (it) => it.textContent.trim() || it.getAttribute('aria-label') || it.labels?.length;
+  const told = (all) => all.map((it) => it.outerHTML.slice(0, 100));
+  return [
+    told(shown.filter((it) => document.documentElement.scrollWidth > innerWidth && it.getBoundingClientRect().right > innerWidth + 1)),
+    told(texts.filter((it) => contrast(it) < 4.5)), told(pressed.filter((it) => !isNamed(it))),
+    told(pressed.filter((it) => it.getBoundingClientRect().height < 24 && !it.closest('p'))), texts.length,
+  ];
+"""
+
+
+def looks(program, folder, is_proxy):
+    """Sizes, contrast and names, in light and dark."""
+    house = pictured_house(program, folder)
+    relay, number = Relay(house, is_proxy), 0
+    for width in (360, 1920):
+        for is_dark in (False, True):
+            page = Page(relay, "AB", width, 900, is_dark=is_dark, fixed=True)
+            for view in ("today", "depositor", "depositor/ZZ-TEAROOM", "receiving", "picking/ZZ-TEAROOM/TO-7", "recount/ZZ-TEAROOM", "receiving/ZZ-TEAROOM/TR-11"):
+                page.open(view)
+                if view == "depositor/ZZ-TEAROOM":
+                    page.browser.execute_script("[...document.querySelectorAll('.outbox summary')].slice(0, 2).forEach(it => it.click())")
+                    page.until("two texts", "document.querySelectorAll('.outbox .segments').length === 2")
+                *wrong, texts_shown = page.browser.execute_script(LOOKS)
+                same(f"{view} at {width}, dark {is_dark}: too wide, too faint, without a name, too small", wrong, [[]] * 4)
+                number += texts_shown
+            page.fill([["TEA-GREEN", "26W20", "490"]])
+            page.review("Review the count")
+            same(f"the review at {width}, dark {is_dark}", page.browser.execute_script(LOOKS)[:4], [[]] * 4)
+            page.end()
+    house.stop()
+    return f"{number} texts at 360 and 1,920 pixels, in light and dark, can be read, and all that is pressed has a name"
+
+
 PRINTED = "".join(map(chr, range(0x20, 0x7F)))
 TAGS = ["<img src=x onerror=boom()>", "<script>boom()</script>", "\"'><svg onload=boom()>", "&lt;b&gt; {{boom()}} ${boom()}"]
 
@@ -569,6 +669,15 @@ WATCH = """
 """
 
 
+# How long the browser takes for the same requests, when nothing is made of the responses.
+BARE = """
+  const done = arguments[0], begun = performance.now(), names = [...Array(100).keys()].map((at) => `ZZ-D${String(at).padStart(3, '0')}`);
+  const paths = names.flatMap((who) => [`/outbox/${who}`, `/open/${who}`, `/stock/${who}/csv`]);
+  const worker = async () => { for (let it = paths.shift(); it; it = paths.shift()) await (await fetch(it)).text(); };
+  Promise.all([...Array(6)].map(worker)).then(() => done(performance.now() - begun));
+"""
+
+
 def large(program, folder, is_proxy):
     """How long the first view of a large house takes."""
     house = large_house(program, folder)
@@ -581,6 +690,11 @@ def large(program, folder, is_proxy):
         runs.append(page.until("the whole view", "window.seen.all && window.seen"))
     same("rows", page.asked("document.querySelector('[aria-label=\\'Open work\\']').tBodies[0].rows.length"), 100)
     first, whole = (min(run[name] for run in runs) for name in ("tiles", "all"))
+    page.go("picking")
+    before = page.asked(ASKED)
+    page.go("today")
+    same("what is asked again", page.asked(ASKED)[len(before):], [])
+    own = page.browser.execute_async_script(BARE)
     page.open("depositor/ZZ-D042")
     same("lots", page.asked("[...document.querySelectorAll('tfoot td')][0].textContent"), "100 items, 100 lots")
     page.end()
@@ -589,7 +703,46 @@ def large(program, folder, is_proxy):
     figure("whole view of 100 depositors, 10,000 pairs", whole, "ms")
     if first > 1000:
         raise Wrong(f"the first view took {first:.0f} ms")
-    return f"100 depositors, 10,000 pairs: the first view after {first:.0f} ms, all of it after {whole:.0f} ms"
+    if whole > own + 3000:
+        raise Wrong(f"all of it took {whole:.0f} ms, and the bare requests {own:.0f} ms")
+    return f"100 depositors, 10,000 pairs: the first view after {first:.0f} ms, all of it after {whole:.0f} ms, bare requests {own:.0f} ms"
+
+
+class Stocked(Relay):
+    """Answers for the server with a stock of 10,000 pairs."""
+
+    def own(self, path, is_act):
+        if path != "/stock/ZZ-HOLM/csv":
+            return super().own(path, is_act)
+        lines = "".join(f"ITEM-{n // 10:04d},L{n % 10},2026{1 + n % 12:02d}15,0,{n % 500},0,0\n" for n in range(10_000))
+        text = f"item,lot,expiry,expected,on_hand,reserved,shipped\n{lines}"
+        return f"HTTP/1.1 200 OK\r\nContent-Type: text/plain\r\nContent-Length: {len(text)}\r\nConnection: close\r\n\r\n{text}".encode()
+
+
+LONGEST = "window.long = [0]; new PerformanceObserver(it => long.push(...it.getEntries().map(one => one.duration))).observe({ type: 'longtask' });"
+
+
+def long(program, folder, is_proxy):
+    """One depositor with many lots."""
+    house = new_house(program, folder, "long")
+    house.start()
+    page = Page(Stocked(house, is_proxy), "AB", fixed=True)
+    page.tell("Page.addScriptToEvaluateOnNewDocument", source=LONGEST)
+    longest = []
+    for view, rows in (("depositor/ZZ-HOLM", "[aria-label=Stock] tbody tr"), ("recount/ZZ-HOLM", ".lines li")):
+        page.open(view)
+        page.browser.execute_script("document.querySelector('.scan').focus()")
+        page.browser.switch_to.active_element.send_keys("ITEM-0731")
+        page.until("what fits", f"document.querySelectorAll('{rows}').length === 10")
+        longest.append(page.asked("Math.max(...long)"))
+    page.browser.execute_script("document.querySelector('.scan').value = ''")
+    page.fill([["ITEM-0999", "L7", "498"], ["ITEM-0002", "L1", "20"]])
+    same("what is recounted", page.asked("document.querySelector('.bar p').textContent"), "2 lots recounted")
+    page.end()
+    house.stop()
+    if max(longest) > 1000:
+        raise Wrong(f"the page stood still for {max(longest):.0f} ms")
+    return f"a stock of 10,000 lots: the page stands still for at most {max(longest):.0f} ms"
 
 
 # --- pictures ----------------------------------------------------------------------------------
@@ -670,7 +823,7 @@ def main(words):
     is_proxy, is_pictured = "--proxy" in words, "--pictures" in words
     only = option(words, "--only", "")
     program = program_in(words)
-    parts = [pictures] if is_pictured else [it for it in (acts, lost, clerks, texts, bars, types, large) if only in ("", it.__name__)]
+    parts = [pictures] if is_pictured else [it for it in (acts, lost, clerks, texts, day, looks, bars, types, large, long) if only in ("", it.__name__)]
     for part in parts:
         folder = tempfile.mkdtemp(prefix="page")
         try:

@@ -35,7 +35,7 @@ pub use kind::{TYPE, TYPE_LINE};
 use std::alloc::{AllocError, Global};
 
 /// How many bytes the page has.
-pub const LENGTH: usize = 81079;
+pub const LENGTH: usize = 81911;
 
 /// The page. The one error is want of memory.
 pub fn page(alloc: Global) -> Result<Vec<u8>, AllocError>

@@ -25,10 +25,12 @@ if (child === null || child === undefined || child === false) continue;\n\
 into.append(child instanceof Node ? child : document.createTextNode(String(child)));\n\
 }\n\
 }\n\
-function el(tag, traits = {}, ...children) {\n\
+function el(kind, ...rest) {\n\
+const [tag, ...classes] = kind.split(\".\");\n\
 const made = document.createElement(tag);\n\
-dress(made, traits);\n\
-fill(made, children);\n\
+if (classes.length) made.className = classes.join(\" \");\n\
+if (rest[0]?.constructor === Object) dress(made, rest.shift());\n\
+fill(made, rest);\n\
 return made;\n\
 }\n\
 function drawn(tag, traits = {}, ...children) {\n\
@@ -45,23 +47,25 @@ function button(words, pressed, traits = {}) {\n\
 return el(\"button\", { type: \"button\", ...traits, on: { click: pressed } }, words);\n\
 }\n\
 function labelled(words, field) {\n\
-return el(\"label\", { class: \"field\" }, el(\"span\", { class: \"label\" }, words), field);\n\
+return el(\"label.field\", el(\"span.label\", words), field);\n\
 }\n\
 function hint(...children) {\n\
-return el(\"p\", { class: \"hint\" }, children);\n\
+return el(\"p.hint\", children);\n\
 }\n\
 function note(kind, ...children) {\n\
 const role = kind === \"bad\" ? \"alert\" : \"status\";\n\
-return el(\"div\", { class: `note ${kind}`, role }, ...children);\n\
+return el(`div.note.${kind}`, { role }, ...children);\n\
 }\n\
 function chip(kind, words) {\n\
-return el(\"span\", { class: `chip ${kind}` }, words);\n\
+return el(`span.chip.${kind}`, words);\n\
 }\n\
 function say(words) {\n\
 byId(\"said\").textContent = words;\n\
 }\n\
+const WHOLE = new Intl.NumberFormat(\"en-US\");\n\
+const COMPACT = new Intl.NumberFormat(\"en-US\", { notation: \"compact\" });\n\
 function counted(value) {\n\
-return value.toLocaleString(\"en-US\");\n\
+return WHOLE.format(value);\n\
 }\n\
 function several(value, one, many = `${one}s`) {\n\
 return `${counted(value)} ${value === 1 ? one : many}`;\n\
@@ -76,6 +80,9 @@ return new Date(now.getFullYear(), now.getMonth(), now.getDate());\n\
 function dayOf(text) {\n\
 return new Date(+text.slice(0, 4), +text.slice(4, 6) - 1, +text.slice(6, 8));\n\
 }\n\
+function codeOf(day) {\n\
+return `${day.getFullYear()}${two(day.getMonth() + 1)}${two(day.getDate())}`;\n\
+}\n\
 function dated(text) {\n\
 return text ? `${text.slice(0, 4)}-${text.slice(4, 6)}-${text.slice(6, 8)}` : \"\";\n\
 }\n\
@@ -83,34 +90,44 @@ function daysTo(text) {\n\
 return text ? Math.round((dayOf(text).getTime() - today().getTime()) / DAY) : null;\n\
 }\n\
 function stampOf(now) {\n\
-const day = `${now.getFullYear()}-${two(now.getMonth() + 1)}-${two(now.getDate())}`;\n\
-return `${day} ${two(now.getHours())}:${two(now.getMinutes())}`;\n\
+return `${dated(codeOf(now))} ${two(now.getHours())}:${two(now.getMinutes())}`;\n\
 }\n\
-const memory = new Map();\n\
-function kept(name) {\n\
+function nowAndThen(draw) {\n\
+let [timer, next] = [0, 0];\n\
+return () => {\n\
+if (timer) return;\n\
+timer = setTimeout(() => {\n\
+const begun = performance.now();\n\
+draw();\n\
+const ended = performance.now();\n\
+[timer, next] = [0, ended + Math.max(250, 5 * (ended - begun))];\n\
+}, Math.max(0, next - performance.now()));\n\
+};\n\
+}\n\
+const spare = {};\n\
+const store = (() => {\n\
 try {\n\
-return localStorage.getItem(`whx12.${name}`);\n\
+return localStorage;\n\
 } catch {\n\
-return memory.get(name) ?? null;\n\
+return {};\n\
 }\n\
+})();\n\
+function kept(name) {\n\
+return spare[`whx12.${name}`] ?? store[`whx12.${name}`] ?? null;\n\
 }\n\
 function keep(name, text) {\n\
+const at = `whx12.${name}`;\n\
+delete spare[at];\n\
+if (text === null) return void delete store[at];\n\
 try {\n\
-if (text === null) localStorage.removeItem(`whx12.${name}`);\n\
-else localStorage.setItem(`whx12.${name}`, text);\n\
-return true;\n\
+store[at] = text;\n\
 } catch {\n\
-if (text === null) memory.delete(name);\n\
-else memory.set(name, text);\n\
-return false;\n\
+spare[at] = text;\n\
 }\n\
 }\n\
 function keptNames(beginning) {\n\
-try {\n\
-const names = Object.keys(localStorage).filter((name) => name.startsWith(\"whx12.\"));\n\
-return names.map((name) => name.slice(6)).filter((name) => name.startsWith(beginning));\n\
-} catch {\n\
-return [...memory.keys()].filter((name) => name.startsWith(beginning));\n\
-}\n\
+const names = Object.keys({ ...store, ...spare });\n\
+return names.filter((name) => name.startsWith(`whx12.${beginning}`)).map((name) => \
+name.slice(6));\n\
 }\n\
 ";

@@ -29,26 +29,27 @@ const text = scan.field.value.trim().toUpperCase();\n\
 table.put(rows.filter(({ item, lot, onHand, expiry }) => `${item} ${lot}`.includes(text) &&\n\
 (!only.checked || (onHand > 0 && freshness(expiry) !== \"\"))));\n\
 };\n\
-const scan = scanField(\"Search item or lot\", narrow, narrow);\n\
+const scan = scanField(\"Search item or lot\", narrow, nowAndThen(narrow));\n\
 narrow();\n\
-return card(\"Stock\", el(\"div\", { class: \"tools\" }, scan.box,\n\
-el(\"label\", { class: \"check\" }, only, \" Expired or expiring soon\")), table.box);\n\
+return card(\"Stock\", el(\"div.tools\", scan.box,\n\
+el(\"label.check\", only, \" Expired or expiring soon\")), table.box);\n\
 }\n\
 function outboxCard(who, sent) {\n\
-const list = el(\"ul\", { class: \"outbox\" });\n\
+const list = el(\"ul.outbox\");\n\
+const newest = [...sent].reverse();\n\
+const more = el(\"li\", button(\"Show more\", () => render(10 * MOST_SENT)));\n\
+let shown = 0;\n\
 const render = (most) => {\n\
-const shown = [...sent].reverse().slice(0, most).map((it) => sentItem(who, it));\n\
-const more = button(`Show all ${counted(sent.length)} texts`, () => render(sent.length), {\n\
-class: \"quiet\",\n\
-});\n\
-show(list, shown, sent.length > most ? el(\"li\", {}, more) : null);\n\
+more.remove();\n\
+fill(list, newest.slice(shown, shown += most).map((it) => sentItem(who, it)));\n\
+if (shown < sent.length) list.append(more);\n\
 };\n\
 render(MOST_SENT);\n\
 const none = hint(\"Nothing went out yet.\");\n\
 return card(\"Outbox\", sent.length ? list : none);\n\
 }\n\
 function sentItem(who, { number, kind, state }) {\n\
-const place = el(\"div\", {});\n\
+const place = el(\"div\");\n\
 const name = kind === \"ANS\" ? \"Answer\" : `${kind} ${KIND_NAMES[kind] ?? \"\"}`;\n\
 const opened = async () => {\n\
 if (!details.open || place.childNodes.length) return;\n\
@@ -59,26 +60,17 @@ show(place, errorNote(error));\n\
 }\n\
 };\n\
 const details = el(\"details\", { on: { toggle: opened } },\n\
-el(\"summary\", {}, el(\"b\", {}, number), el(\"span\", {}, name),\n\
+el(\"summary\", el(\"b\", number), el(\"span\", name),\n\
 stateChip(state)), place);\n\
-return el(\"li\", {}, details);\n\
+return el(\"li\", details);\n\
 }\n\
 function stateChip(state) {\n\
 const [kind, words] = STATE_NAMES[state] ?? [\"\", \"\"];\n\
 return words && chip(kind, words);\n\
 }\n\
 async function depositorView(view, who) {\n\
-const names = await depositors();\n\
-const choice = depositorChoice(names, who, (name) => {\n\
-location.hash = `depositor/${name}`;\n\
-});\n\
-const head = el(\"div\", { class: \"head\" }, el(\"h1\", {}, who || \"Depositor\"), choice);\n\
-if (who === \"\") {\n\
-if (names.length === 1) location.replace(`#depositor/${names[0]}`);\n\
-else if (view.isCurrent()) show(view.main, head, depositorList(names));\n\
-return;\n\
-}\n\
-knows(names, who);\n\
+const head = await depositorHead(view, \"depositor\", who || \"Depositor\", who);\n\
+if (!head) return;\n\
 const [rows, works, sent] = await Promise.all([\n\
 stockOf(who), workOf(who), read(\"outbox\", who).then(sentTexts),\n\
 ]);\n\
@@ -89,18 +81,14 @@ none: \"Nothing waits.\",\n\
 });\n\
 open.put(works);\n\
 show(view.main, head, depositorTiles(rows, sent),\n\
-el(\"div\", { class: \"columns\" }, card(\"On hand by month of expiry\", expiryPlot(rows)),\n\
+el(\"div.columns\", card(\"On hand by month of expiry\", expiryPlot(rows)),\n\
 card(\"Open work\", open.box)),\n\
 stockCard(rows), outboxCard(who, sent));\n\
-}\n\
-function depositorList(names) {\n\
-return el(\"ul\", { class: \"names card\" },\n\
-names.map((name) => el(\"li\", {}, linkTo([\"depositor\", name], name))));\n\
 }\n\
 function depositorTiles(rows, sent) {\n\
 const expired = rows.filter(({ expiry, onHand }) => onHand && freshness(expiry) === \"expired\");\n\
 const refused = sent.filter(({ state }) => state === \"refused\").length;\n\
-return el(\"div\", { class: \"tiles card\" },\n\
+return el(\"div.tiles.card\",\n\
 tile(total(rows, (row) => row.onHand), \"pieces on hand\"),\n\
 tile(total(rows, (row) => row.reserved), \"reserved\"),\n\
 tile(total(rows, (row) => row.expected), \"expected\"),\n\

@@ -4,6 +4,7 @@
 /// The script, part 11.
 pub const SCRIPT_11: &[u8] = b"const IDENTIFIER = /^[A-Z0-9.-]+$/;\n\
 const FASTEST_HAND = 60;\n\
+const MOST_FIELDS = 60;\n\
 function draftName({ kind, who, subject }) {\n\
 return `draft.${kind}/${who}/${subject}`;\n\
 }\n\
@@ -20,40 +21,59 @@ keep(draftName(plan), null);\n\
 function pairName({ item, lot }) {\n\
 return `${item},${lot}`;\n\
 }\n\
-function lineFields(how) {\n\
-const draft = draftOf(how.plan);\n\
-const list = el(\"ul\", { class: \"lines\" });\n\
-const said = el(\"div\", {});\n\
+function lineMaker(list, made) {\n\
 const rows = new Map();\n\
-const changed = () => {\n\
-keep(draftName(how.plan), JSON.stringify(draft));\n\
-how.changed();\n\
-};\n\
-const put = (field) => {\n\
-const row = fieldRow(field, how, draft, changed, (text) => scanned(text));\n\
-rows.set(pairName(field), row);\n\
-list.append(row.item);\n\
+const shown = (row) => {\n\
+if (!row.item.isConnected) list.append(row.item);\n\
 return row;\n\
 };\n\
-const addPair = (item, lot) => {\n\
-if (!how.add || rows.has(pairName({ item, lot }))) return;\n\
+return {\n\
+rowOf: (field) => {\n\
+const row = rows.get(pairName(field)) ?? made(field);\n\
+rows.set(pairName(field), row);\n\
+return shown(row);\n\
+},\n\
+bad: () => {\n\
+const row = [...rows.values()].find(({ input }) => input.hasAttribute(\"aria-invalid\"));\n\
+return row && shown(row);\n\
+},\n\
+};\n\
+}\n\
+function lineFields(how) {\n\
+const { plan, add } = how;\n\
+const draft = draftOf(plan);\n\
+const [list, said, told] = [el(\"ul.lines\"), el(\"div\"), el(\"p\", { role: \"status\" })];\n\
+const fields = new Map(how.fields.map((field) => [pairName(field), field]));\n\
+if (add) for (const { item, lot } of draft.added) fields.set(`${item},${lot}`, add(item, lot));\n\
+const text = (field) => draft.values[pairName(field)] ?? \"\";\n\
+const changed = () => {\n\
+keep(draftName(plan), JSON.stringify(draft));\n\
+told.textContent = how.told([...fields.values()].filter((it) => text(it) !== \"\").length);\n\
+};\n\
+const { rowOf, bad } = lineMaker(list, (it) => fieldRow(it, how, draft, changed, scan));\n\
+const adding = addForm((item, lot) => {\n\
+if (!add || fields.has(`${item},${lot}`)) return;\n\
 show(said);\n\
 draft.added.push({ item, lot });\n\
-const row = put(how.add(item, lot));\n\
+fields.set(`${item},${lot}`, add(item, lot));\n\
 changed();\n\
-row.input.focus();\n\
-};\n\
-const scanned = scanner(rows, said, (item, lot) => how.add && adding.ask(item, lot));\n\
-const scan = scanField(how.scan, (text) => scanned(text), () => show(said));\n\
-const adding = addForm(addPair);\n\
-how.fields.forEach(put);\n\
-const { add } = how;\n\
-if (add) draft.added.forEach(({ item, lot }) => put(add(item, lot)));\n\
+rowOf(fields.get(`${item},${lot}`)).input.focus();\n\
+});\n\
+const scan = scanner(fields, rowOf, said, (item, lot) => add && adding.ask(item, lot));\n\
+const { field, box } = scanField(\"Scan or type a lot or an item\", scan);\n\
+const look = () => (bad() ? bad()?.input.focus() : how.look([...fields.values()].map((it) => (\n\
+{ field: it, isTyped: text(it) !== \"\", quantity: Number(text(it)) }))));\n\
+changed();\n\
 return {\n\
-box: el(\"div\", {}, el(\"div\", { class: \"tools\" }, scan.box,\n\
-hint(`\\u201c=\\u201d takes over what is ${how.have}.`)), said, list,\n\
-how.add ? adding.box : null),\n\
-rows, scan: scan.field, draft, changed,\n\
+box: el(\"div.card\", el(\"div.tools\", box, hint(`\\u201c=\\u201d takes over what is \
+${how.have}.`)),\n\
+said, list, add ? adding.box : null),\n\
+bar: el(\"div.bar\", told, button(`Review the ${plan.kind}`, look, { class: \"main\" })),\n\
+scan: field,\n\
+show: (passes) => {\n\
+list.replaceChildren();\n\
+for (const [name, it] of fields) if (passes(name, text(it))) rowOf(it);\n\
+},\n\
 };\n\
 }\n\
 function fieldRow(field, how, draft, changed, scanned) {\n\
@@ -75,12 +95,14 @@ input.value = String(field.have);\n\
 input.dispatchEvent(new Event(\"input\"));\n\
 }, { class: \"same\", \"aria-label\": `${how.have} of ${field.item}, lot ${field.lot}` });\n\
 const item = el(\"li\", { class: field.isAdded ? \"added\" : \"\" },\n\
-el(\"div\", { class: \"goods\" }, el(\"b\", {}, field.item), el(\"span\", {}, field.lot)),\n\
-el(\"div\", { class: \"about\" }, field.about),\n\
-el(\"div\", { class: \"have\" }, el(\"small\", {}, how.have), ` ${counted(field.have)}`),\n\
+el(\"div.goods\", el(\"b\", field.item), el(\"span\", field.lot)),\n\
+el(\"div.about\", field.isAdded && chip(\"warn\", \"not announced\"),\n\
+field.reserved ? [chip(\"\", `${counted(field.reserved)} reserved`), \" \"] : null,\n\
+field.expiry && [el(\"small\", \"expires \"), expiryShown(field.expiry)]),\n\
+el(\"div.have\", el(\"small\", how.have), ` ${counted(field.have)}`),\n\
 same, input);\n\
 mark();\n\
-return { field, input, item };\n\
+return { input, item };\n\
 }\n\
 function quantityField({ item, lot }, digits, first, accept, scanned) {\n\
 let [good, before, last] = [first, first, 0];\n\
@@ -110,27 +132,26 @@ scanned(text.startsWith(before) ? text.slice(before.length) : text);\n\
 input.addEventListener(\"focus\", () => input.select());\n\
 return input;\n\
 }\n\
-function scanner(rows, said, unknown) {\n\
+function scanner(fields, rowOf, said, unknown) {\n\
 let awaited = \"\";\n\
 return (text) => {\n\
 const parts = text.split(/[ ,;]+/);\n\
-const all = [...rows.values()];\n\
-const exact = rows.get(parts.slice(0, 2).join(\",\"));\n\
-const ofItem = all.filter(({ field }) => field.item === text);\n\
-const ofLot = all.filter(({ field }) => field.lot === text &&\n\
-(awaited === \"\" || field.item === awaited));\n\
-const found = exact ? [exact] : ofLot.length ? ofLot : ofItem;\n\
+const all = [...fields.values()];\n\
+const exact = fields.get(parts.slice(0, 2).join(\",\"));\n\
+const ofItem = all.filter(({ item }) => item === text);\n\
+const ofLot = all.filter(({ item, lot }) => lot === text && (!awaited || item === awaited));\n\
 clearScan(text);\n\
-for (const { item } of all) item.classList.toggle(\"found\", false);\n\
+for (const it of document.querySelectorAll(\".found\")) it.classList.remove(\"found\");\n\
 show(said);\n\
-for (const { item } of found) item.hidden = false;\n\
+const fit = exact ? [exact] : ofLot.length ? ofLot : ofItem;\n\
+const found = fit.slice(0, MOST_FIELDS).map(rowOf);\n\
 if (found.length === 1) {\n\
 awaited = \"\";\n\
 found[0].item.scrollIntoView({ block: \"center\" });\n\
 found[0].input.focus();\n\
 } else if (found.length > 1) {\n\
 awaited = ofItem.length ? text : \"\";\n\
-for (const { item } of found) item.classList.toggle(\"found\", true);\n\
+for (const { item } of found) item.classList.add(\"found\");\n\
 found[0].item.scrollIntoView({ block: \"nearest\" });\n\
 const next = ofItem.length ? \"lot\" : \"item\";\n\
 show(said, note(\"warn\", `${text}: ${found.length} lines. Scan the ${next}.`));\n\
@@ -152,10 +173,7 @@ say(text);\n\
 field.focus();\n\
 }\n\
 function addForm(added) {\n\
-const field = (most) => el(\"input\", {\n\
-type: \"text\", maxlength: most, autocomplete: \"off\", autocapitalize: \"characters\",\n\
-spellcheck: \"false\",\n\
-});\n\
+const field = (most) => el(\"input\", { ...CAPITALS, type: \"text\", maxlength: most });\n\
 const [item, lot] = [field(20), field(12)];\n\
 const said = hint();\n\
 const add = (event) => {\n\
@@ -169,10 +187,10 @@ said.textContent = item.value = lot.value = \"\";\n\
 box.open = false;\n\
 added(one, other);\n\
 };\n\
-const form = el(\"form\", { class: \"tools\", on: { submit: add } }, labelled(\"Item\", item),\n\
+const form = el(\"form.tools\", { on: { submit: add } }, labelled(\"Item\", item),\n\
 labelled(\"Lot\", lot), el(\"button\", { type: \"submit\" }, \"Add this line\"));\n\
-const box = el(\"details\", { class: \"adding\" },\n\
-el(\"summary\", {}, \"Add a line that wasn't announced\"), form, said);\n\
+const box = el(\"details.adding\",\n\
+el(\"summary\", \"Add a line that wasn't announced\"), form, said);\n\
 const ask = (one, other) => {\n\
 box.open = true;\n\
 item.value = one;\n\
@@ -181,8 +199,32 @@ lot.value = other;\n\
 };\n\
 return { box, ask };\n\
 }\n\
-function filledWords(rows) {\n\
-const filled = [...rows.values()].filter(({ input }) => input.value.trim() !== \"\").length;\n\
-return `${filled} of ${counted(rows.size)} filled in`;\n\
+function differencesOf(lines, kindOf) {\n\
+const differing = lines.filter(({ field, quantity }) =>\n\
+field.isAdded || quantity !== field.have);\n\
+return differing.map(({ field, quantity }) => ({\n\
+kind: kindOf(field, quantity), item: field.item, lot: field.lot,\n\
+from: field.isAdded ? \"-\" : counted(field.have), to: counted(quantity),\n\
+}));\n\
+}\n\
+function givenBy(lines) {\n\
+return lines.map(({ field: { item, lot }, quantity }) => ({ item, lot, quantity }));\n\
+}\n\
+async function datedFields(who, lines) {\n\
+const rows = await stockOf(who).catch(() => /** @type {Row[]} */ ([]));\n\
+const dates = new Map(rows.map((row) => [pairName(row), row.expiry]));\n\
+return lines.map(({ item, lot, quantity }) => (\n\
+{ item, lot, have: quantity, expiry: dates.get(`${item},${lot}`) }));\n\
+}\n\
+function workHead(view, { who, subject }, fields, have, ...more) {\n\
+const pieces = total(fields, (field) => field.have);\n\
+return el(\"div.head\",\n\
+el(\"div\", linkTo([view], \"\\u2190 All\", \"back\"), el(\"h1\", subject),\n\
+hint(linkTo([\"depositor\", who], who), ` \\u00b7 ${several(fields.length, \"line\")}, ` +\n\
+`${several(pieces, \"piece\")} ${have}`)),\n\
+el(\"div.row\", more));\n\
+}\n\
+function filledOf(fields) {\n\
+return (typed) => `${typed} of ${several(fields.length, \"line\")} filled in`;\n\
 }\n\
 ";

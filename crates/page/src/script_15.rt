@@ -34,8 +34,8 @@ try {\n\
 await VIEWS[name]({ main, isCurrent: () => mine === shownView }, who, number);\n\
 } catch (error) {\n\
 if (mine !== shownView) return;\n\
-show(main, el(\"h1\", {}, number || who || name), errorNote(error),\n\
-el(\"p\", { class: \"row\" }, button(\"Try again\", () => void showView()),\n\
+show(main, el(\"h1\", number || who || name), errorNote(error),\n\
+el(\"p.row\", button(\"Try again\", () => void showView()),\n\
 linkTo([name], \"Back to the list\", \"button\")));\n\
 }\n\
 if (mine === shownView) main.setAttribute(\"aria-busy\", \"false\");\n\

@@ -16,23 +16,23 @@ const REFUSALS = {\n\
 20: [\"Nobody is enrolled under this id.\", \"Choose the depositor from the list.\"],\n\
 21: [\n\
 \"This ticket was given before, with another act or other lines.\",\n\
-\"Look at the depositor's outbox for what was done, then review again: you get a new ticket.\",\n\
+\"See the outbox for what was done, then review again: you get a new ticket.\",\n\
 ],\n\
 22: [\n\
 \"No advice with this shipment number has passed.\",\n\
-\"Compare the delivery note. The depositor's 943 may not be here, or was rejected.\",\n\
+\"Compare the delivery note. The 943 may not be here, or was rejected.\",\n\
 ],\n\
 23: [\n\
 \"This advice was counted before.\",\n\
-\"Put amounts right by a recount of the lots that differ.\",\n\
+\"Recount the lots that differ.\",\n\
 ],\n\
 24: [\n\
 \"No order with this number has passed.\",\n\
-\"Compare the number. The depositor's 940 may not be here, or was rejected.\",\n\
+\"Compare the number. The 940 may not be here, or was rejected.\",\n\
 ],\n\
 25: [\n\
 \"This order was picked before, perhaps by someone else just now.\",\n\
-\"The 945 in the depositor's outbox says what was shipped. Don't ship it again.\",\n\
+\"The 945 in the outbox says what was shipped. Don't ship it again.\",\n\
 ],\n\
 26: [\n\
 \"A line has more of a lot than this order has reserved.\",\n\
@@ -40,7 +40,7 @@ const REFUSALS = {\n\
 ],\n\
 27: [\n\
 \"A line names a lot that no count has named.\",\n\
-\"Look for a typing error. Else name the lot in the depositor's next count.\",\n\
+\"Look for a typing error. Else name the lot in the next count.\",\n\
 ],\n\
 28: [\n\
 \"A line sets less than open orders have reserved.\",\n\
@@ -57,22 +57,16 @@ const REFUSALS = {\n\
 \"Use capitals, digits, - and . alone, and whole numbers.\",\n\
 ],\n\
 33: [\"Over 999 lines.\", \"Split it into several acts.\"],\n\
-34: [\"The depositor has used up its numbers.\", \"It must be enrolled under a second id.\"],\n\
+34: [\"The depositor has used up its numbers.\", \"Enrol it under a second id.\"],\n\
 };\n\
 const STATUSES = {\n\
-400: [\"The server couldn't read the request.\", \"Load this page again.\"],\n\
 403: [\n\
 \"The server turned this page away.\",\n\
 \"Open it at the clerks' own address, not through another name or page.\",\n\
 ],\n\
-404: [\"The server doesn't do this.\", \"It must be started for clerks: with --clerks.\"],\n\
-421: [\n\
-\"The server doesn't know the name in this page's address.\",\n\
-\"Open it by the address in digits, or have the name added by --host.\",\n\
-],\n\
 503: [\n\
 \"The server met a fault.\",\n\
-\"It stays without an answer until the server is well: look at its disk, then its journal.\",\n\
+\"Look at the server's disk, then at its journal.\",\n\
 ],\n\
 };\n\
 function refusalNumber(text) {\n\
@@ -91,17 +85,15 @@ return { what, cure, line: text.trim().split(\"\\n\")[0] || `status ${status}` }
 }\n\
 function refusalNote(status, text) {\n\
 const { what, cure, line } = refusalWords(status, text);\n\
-return note(\"bad\", el(\"strong\", {}, what), el(\"p\", {}, cure), el(\"p\", { class: \"raw\" }, \
-line));\n\
+return note(\"bad\", el(\"strong\", what), el(\"p\", cure), el(\"p.raw\", line));\n\
 }\n\
 function errorNote(error) {\n\
 if (error instanceof Refused) return refusalNote(error.status, error.text);\n\
 if (error instanceof Lost) {\n\
-const cure = \"Is the server running, and this device in its network? Then try again.\";\n\
-return note(\"bad\", el(\"strong\", {}, \"The server doesn't answer.\"), el(\"p\", {}, cure));\n\
+const cure = \"Is the server running, and this device in its network?\";\n\
+return note(\"bad\", el(\"strong\", \"The server doesn't answer.\"), el(\"p\", cure));\n\
 }\n\
-return note(\"bad\", el(\"strong\", {}, \"This can't be done here.\"), el(\"p\", {}, \
-error.message));\n\
+return note(\"bad\", el(\"strong\", \"This can't be done here.\"), el(\"p\", error.message));\n\
 }\n\
 function pathOf(...parts) {\n\
 for (const part of parts) {\n\

@@ -30,7 +30,7 @@ const short = /^ {2}\\S+ +\\(short\\) +(\\d+)$/.exec(line);\n\
 const order = /^(\\S+) +(\\d+) (.*)$/.exec(line);\n\
 const advice = /^(\\S+) +(\\d+) +(\\d+) (\\S+)$/.exec(line);\n\
 if (/^order +lines ship to$/.test(line)) isOrders = true;\n\
-else if (isOrders && short) orders[orders.length - 1].short += Number(short[1]);\n\
+else if (isOrders && short) orders.at(-1).short += Number(short[1]);\n\
 else if (isOrders && order) {\n\
 orders.push({ number: order[1], lines: +order[2], to: order[3], short: 0 });\n\
 } else if (advice) {\n\
@@ -81,7 +81,7 @@ W07: \"counted\", W14: \"totals of the receipt\", W06: \"shipment\", LX: \"line\
 W03: \"total shipped\", W15: \"adjustment\", W19: \"adjusted\", N9: \"reference\",\n\
 };\n\
 const KIND_NAMES = {\n\
-ANS: \"answer\", 944: \"goods counted\", 945: \"goods shipped\", 947: \"stock recounted\",\n\
+944: \"goods counted\", 945: \"goods shipped\", 947: \"stock recounted\",\n\
 };\n\
 const STATE_NAMES = {\n\
 open: [\"warn\", \"no 997 yet\"], accepted: [\"good\", \"accepted\"], refused: [\"bad\", \
@@ -90,63 +90,91 @@ open: [\"warn\", \"no 997 yet\"], accepted: [\"good\", \"accepted\"], refused: [
 function segmentList(text) {\n\
 const segments = segmentsOf(text);\n\
 const mark = text.startsWith(\"ISA\") ? text[3] : \"*\";\n\
-const shown = segments.map((elements) => el(\"li\", {},\n\
-el(\"code\", {}, elements.join(mark)),\n\
-el(\"span\", { class: \"what\" }, SEGMENT_NAMES[elements[0]] ?? \"\"),\n\
+const shown = segments.map((elements) => el(\"li\",\n\
+el(\"code\", elements.join(mark)),\n\
+el(\"span.what\", SEGMENT_NAMES[elements[0]] ?? \"\"),\n\
 ));\n\
-return el(\"ol\", { class: \"segments\" }, shown);\n\
+return el(\"ol.segments\", shown);\n\
 }\n\
 function documentWords(text) {\n\
 const segments = segmentsOf(text);\n\
 const kind = segments.find(([id]) => id === \"ST\")?.[1] ?? \"\";\n\
-if (kind === \"944\") return receiptWords(segments);\n\
-if (kind === \"945\") return shipmentWords(segments);\n\
-if (kind === \"947\") return adjustmentWords(segments);\n\
-return { title: \"An answer to what the depositor sent\", heads: [], rows: [] };\n\
+const words = kind === \"944\" ? receiptWords : kind === \"945\" ? shipmentWords\n\
+: kind === \"947\" ? adjustmentWords : answerWords;\n\
+const none = { act: \"\", heads: [], rows: [], into: 0, out: 0, change: 0, rejects: \"\" };\n\
+return { ...none, ...words(segments) };\n\
+}\n\
+function answerWords(segments) {\n\
+const bad = segments.filter(([id, verdict]) => id === \"AK5\" && verdict !== \"A\").length;\n\
+const all = segments.filter(([id]) => id === \"AK5\").length;\n\
+const groups = segments.filter(([id, verdict]) => id === \"AK9\" && verdict === \"R\").length;\n\
+const rejects = bad ? `${bad} of ${several(all, \"set\")}` : groups ? several(groups, \"group\") : \
+\"\";\n\
+const title = `An answer to what the depositor sent${rejects && `, rejects ${rejects}`}`;\n\
+return { title, rejects };\n\
 }\n\
 function receiptWords(segments) {\n\
 const rows = [];\n\
-let title = \"944\";\n\
+let [title, act, into] = [\"944\", \"\", 0];\n\
 for (const [id, ...of] of segments) {\n\
-if (id === \"W17\") title = `944 number ${of[2]}: shipment ${of[4]} of order ${of[3] || \"-\"}`;\n\
-if (id === \"W07\") rows.push([of[4], \"\", counted(+of[0])]);\n\
-if (id === \"N9\") rows[rows.length - 1][1] = of[1];\n\
-if (id === \"W14\") title += `, ${counted(+of[0])} of ${counted(+of[1])} announced`;\n\
+if (id === \"W17\") {\n\
+title = `944 number ${of[2]}: shipment ${of[4]} of order ${of[3] || \"-\"}`;\n\
+act = `Count of ${of[4]}`;\n\
 }\n\
-return { title, heads: [\"Item\", \"Lot\", \"Received\"], rows };\n\
+if (id === \"W07\") rows.push([of[4], \"\", counted(+of[0])]);\n\
+if (id === \"N9\") rows.at(-1)[1] = of[1];\n\
+if (id === \"W14\") {\n\
+title += `, ${counted(+of[0])} of ${counted(+of[1])} announced`;\n\
+into = +of[0];\n\
+}\n\
+}\n\
+return { title, act, heads: [\"Item\", \"Lot\", \"Received\"], rows, into };\n\
 }\n\
 function shipmentWords(segments) {\n\
 const rows = [];\n\
-let title = \"945\";\n\
+let [title, act, out] = [\"945\", \"\", 0];\n\
 for (const [id, ...of] of segments) {\n\
-if (id === \"W06\") title = `945 number ${of[3]}: order ${of[1]}`;\n\
+if (id === \"W06\") [title, act] = [`945 number ${of[3]}: order ${of[1]}`, `Pick of ${of[1]}`];\n\
 if (id === \"W12\") {\n\
 const [, ordered, shipped, short] = of.map(Number);\n\
 const rest = short ? `, ${counted(short)} short` : \"\";\n\
 rows.push([of[7], \"all lots\", `${counted(shipped)} of ${counted(ordered)}${rest}`]);\n\
 }\n\
 if (id === \"N9\") rows.push([\"\", of[1], counted(+of[2])]);\n\
-if (id === \"W03\") title += `, ${several(+of[0], \"piece\")} shipped`;\n\
+if (id === \"W03\") {\n\
+title += `, ${several(+of[0], \"piece\")} shipped`;\n\
+out = +of[0];\n\
 }\n\
-return { title, heads: [\"Item\", \"Lot\", \"Shipped\"], rows };\n\
+}\n\
+return { title, act, heads: [\"Item\", \"Lot\", \"Shipped\"], rows, out };\n\
 }\n\
 function adjustmentWords(segments) {\n\
 const rows = [];\n\
-let title = \"947\";\n\
+let [title, change] = [\"947\", 0];\n\
 for (const [id, ...of] of segments) {\n\
 if (id === \"W15\") title = `947 number ${of[1]}: stock recounted`;\n\
-if (id === \"W19\") rows.push([of[5], \"\", `${+of[1] > 0 ? \"+\" : \"\"}${counted(+of[1])}`]);\n\
-if (id === \"N9\") rows[rows.length - 1][1] = of[1];\n\
+if (id === \"W19\") {\n\
+rows.push([of[5], \"\", `${+of[1] > 0 ? \"+\" : \"\"}${counted(+of[1])}`]);\n\
+change += +of[1];\n\
 }\n\
-return { title, heads: [\"Item\", \"Lot\", \"Difference\"], rows };\n\
+if (id === \"N9\") rows.at(-1)[1] = of[1];\n\
+}\n\
+return { title, act: \"Recount\", heads: [\"Item\", \"Lot\", \"Difference\"], rows, change };\n\
+}\n\
+function toldBy(who, { number, kind }, text) {\n\
+const [day = \"\", time = \"\"] = segmentsOf(text)[0].slice(9, 11);\n\
+const [year, month, date] = [0, 2, 4].map((at) => +day.slice(at, at + 2));\n\
+const at = new Date(Date.UTC(2000 + year, month - 1, date, +time.slice(0, 2), +time.slice(2)));\n\
+const { act, title, into, out, change, rejects } = documentWords(text);\n\
+return { who, number, kind, at, act, title, into, out, change, rejects };\n\
 }\n\
 function documentShown(text) {\n\
 const { title, heads, rows } = documentWords(text);\n\
-return el(\"div\", { class: \"document\" },\n\
-el(\"h3\", {}, title),\n\
-rows.length ? el(\"div\", { class: \"wide\" }, plainTable(heads, rows, [2])) : null,\n\
+return el(\"div.document\",\n\
+el(\"h3\", title),\n\
+rows.length ? el(\"div.wide\", plainTable(heads, rows, [2])) : null,\n\
 el(\"details\", { open: rows.length === 0 },\n\
-el(\"summary\", {}, \"As it went out, by segment\"), segmentList(text)),\n\
+el(\"summary\", \"As it went out, by segment\"), segmentList(text)),\n\
 );\n\
 }\n\
 ";

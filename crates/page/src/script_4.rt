@@ -20,9 +20,7 @@ return made.join(\"\");\n\
 function newTicket() {\n\
 const number = (Number(kept(\"number\") ?? \"0\") % 9999) + 1;\n\
 keep(\"number\", String(number));\n\
-const now = new Date();\n\
-const day = `${two(now.getFullYear() % 100)}${two(now.getMonth() + 1)}${two(now.getDate())}`;\n\
-return `${clerk()}-${day}-${device()}-${number}`;\n\
+return `${clerk()}-${codeOf(new Date()).slice(2)}-${device()}-${number}`;\n\
 }\n\
 function actWords({ kind, who, subject }) {\n\
 if (kind === \"count\") return `Count of ${subject} for ${who}`;\n\
@@ -104,7 +102,8 @@ return `refused: ${refusalWords(act.status, act.text).what}`;\n\
 }\n\
 function triesWords(act) {\n\
 if (act.tries < 2) return \"\";\n\
-return `Given ${act.tries} times under ticket ${act.ticket}; it counts once.`;\n\
+return `Given ${act.tries} times under ticket ${act.ticket}: this is its answer, it counts \
+once.`;\n\
 }\n\
 function showWaiting() {\n\
 const acts = keptActs().filter((act) => act.state === \"open\" || !act.isTold);\n\
@@ -115,25 +114,27 @@ const there = new Map([...place.children].map((it) => [it.dataset.told, it]));\n
 const notes = shown.map((act) => {\n\
 const told = [act.ticket, act.state, act.fault].join(\" \");\n\
 const made = there.get(told)\n\
-?? (act.state === \"open\" ? waitingNote(act) : answeredNote(act));\n\
+?? (act.state === \"open\" ? waitingAct(act) : answeredNote(act));\n\
 made.dataset.told = told;\n\
 return made;\n\
 });\n\
 const isSame = notes.length === there.size && notes.every((it) => it.isConnected);\n\
 if (!isSame) show(place, notes);\n\
 }\n\
-function waitingNote(act) {\n\
-const why = act.fault ? `The server has a fault (${act.fault}).` : \"No answer came.\";\n\
+function waitingNote({ ticket, fault }, lead, ...more) {\n\
+const why = fault ? `The server has a fault: ${fault}.` : \"No answer came.\";\n\
+return note(\"warn\", el(\"strong\", lead, why),\n\
+el(\"p\", \"It may be done, or not. The page gives it again every few seconds under ticket \",\n\
+el(\"code\", ticket), \", until the answer comes; it counts once.\"), more);\n\
+}\n\
+function waitingAct(act) {\n\
 const aside = button(\"Set aside\", () => {\n\
 if (aside.dataset.sure) return setAside(act);\n\
 aside.dataset.sure = \"yes\";\n\
 aside.textContent = \"It may have been done. Set aside?\";\n\
-}, { class: \"quiet\" });\n\
-return note(\"warn\",\n\
-el(\"strong\", {}, `${actWords(act)}: ${why}`),\n\
-el(\"p\", {}, `Ticket ${act.ticket}. The page gives it again every few seconds under the same `,\n\
-\"ticket; whatever came of the first time, it counts once.\"),\n\
-el(\"p\", { class: \"row\" }, button(\"Give it again now\", () => void giveAgain()), aside));\n\
+});\n\
+return waitingNote(act, `${actWords(act)}: `,\n\
+el(\"p.row\", button(\"Give it again now\", () => void giveAgain()), aside));\n\
 }\n\
 function answeredNote(act) {\n\
 const seen = () => {\n\
@@ -144,10 +145,10 @@ void showView();\n\
 };\n\
 const isDone = act.status === 200;\n\
 return note(isDone ? \"good\" : \"bad\",\n\
-el(\"strong\", {}, `${actWords(act)}: the answer came.`),\n\
-el(\"p\", {}, `Ticket ${act.ticket}: ${outcomeWords(act)}. ${triesWords(act)}`),\n\
+el(\"strong\", `${actWords(act)}: the answer came.`),\n\
+el(\"p\", `Ticket ${act.ticket}: ${outcomeWords(act)}. ${triesWords(act)}`),\n\
 isDone ? documentShown(act.text) : refusalNote(act.status, act.text),\n\
-el(\"p\", { class: \"row\" }, button(\"Seen\", seen)));\n\
+el(\"p.row\", button(\"Seen\", seen)));\n\
 }\n\
 function setAside(act) {\n\
 Object.assign(act, { state: \"aside\", isTold: true, answered: stampOf(new Date()) });\n\
@@ -161,6 +162,7 @@ field.value = kept(\"clerk\") ?? \"\";\n\
 field.addEventListener(\"input\", () => {\n\
 field.value = field.value.toUpperCase().replace(/[^A-Z0-9]/g, \"\").slice(0, 4);\n\
 field.classList.remove(\"missing\");\n\
+byId(\"clerk-hint\").classList.add(\"unseen\");\n\
 keep(\"clerk\", field.value);\n\
 });\n\
 addEventListener(\"storage\", showWaiting);\n\

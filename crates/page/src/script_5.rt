@@ -8,8 +8,8 @@ function hasClerk() {\n\
 if (clerk() !== \"\") return true;\n\
 const field = byId(\"clerk\");\n\
 field.classList.add(\"missing\");\n\
+byId(\"clerk-hint\").classList.remove(\"unseen\");\n\
 field.focus();\n\
-say(\"Give your initials first\");\n\
 return false;\n\
 }\n\
 function review(plan) {\n\
@@ -18,41 +18,40 @@ const dialog = byId(\"review\");\n\
 const ticket = newTicket();\n\
 const body = sheetOf(plan.lines);\n\
 const open = openActLike(plan);\n\
-const tried = el(\"div\", { class: \"tried\" });\n\
+const tried = el(\"div.tried\");\n\
 const send = button(`Send the ${plan.kind}`, () => sendPlan(plan, ticket, body), {\n\
 class: \"main\", disabled: true,\n\
 });\n\
-const boxes = plan.questions.map((words) => el(\"label\", { class: \"question\" },\n\
-el(\"input\", { type: \"checkbox\", on: { change: () => admit() } }), el(\"span\", {}, words)));\n\
-const sure = () => boxes.every((box) => box.querySelector(\"input\").checked);\n\
-let isAdmitted = false;\n\
-const admit = () => send.toggleAttribute(\"disabled\", !(isAdmitted && sure()));\n\
+const boxes = plan.questions.filter(Boolean).map((words) => el(\"label.question\",\n\
+el(\"input\", { type: \"checkbox\", on: { change: () => admit() } }), el(\"span\", words)));\n\
+let isGood = false;\n\
+const admit = () => {\n\
+send.disabled = !isGood || boxes.some((box) => !box.querySelector(\"input\").checked);\n\
+};\n\
 show(dialog, reviewHead(plan, ticket), differenceTable(plan), boxes,\n\
 open ? note(\"bad\", `Ticket ${open.ticket} of the same has no answer yet: wait for it.`) : \
 tried,\n\
-el(\"p\", { class: \"row end\" }, button(\"Back\", () => dialog.close(), { class: \"quiet\" }), \
-send));\n\
+el(\"p.row.end\", button(\"Back\", () => dialog.close()), send));\n\
 dialog.showModal();\n\
 dialog.querySelector(\"h2\").focus();\n\
 if (open) return;\n\
-void tryPlan(plan, ticket, body, tried).then((isGood) => {\n\
-isAdmitted = isGood;\n\
+void tryPlan(plan, ticket, body, tried).then((would) => {\n\
+isGood = would;\n\
 admit();\n\
 });\n\
 }\n\
 function reviewHead(plan, ticket) {\n\
-const pieces = plan.lines.reduce((sum, line) => sum + line.quantity, 0);\n\
+const pieces = total(plan.lines, (line) => line.quantity);\n\
 const size = `${several(plan.lines.length, \"line\")}, ${several(pieces, \"piece\")}`;\n\
-return el(\"header\", {},\n\
+return el(\"header\",\n\
 el(\"h2\", { id: \"review-title\", tabindex: \"-1\" }, actWords(plan)),\n\
-el(\"p\", { class: \"ticket\" }, \"Ticket \", el(\"code\", {}, ticket), ` \\u00b7 ${size}`));\n\
+el(\"p.ticket\", \"Ticket \", el(\"code\", ticket), ` \\u00b7 ${size}`));\n\
 }\n\
 function differenceTable({ heads, differences, same }) {\n\
 if (differences.length === 0) return note(\"good\", same);\n\
 const rows = differences.map(({ kind, item, lot, from, to }) => [\n\
-[el(\"b\", {}, item), ` ${lot} `, chip(GRAVE.includes(kind) ? \"bad\" : \"warn\", kind)], from, \
-to]);\n\
-return el(\"div\", { class: \"wide\" }, plainTable([\"What differs\", ...heads], rows, [1, 2]));\n\
+[el(\"b\", item), ` ${lot} `, chip(GRAVE.includes(kind) ? \"bad\" : \"warn\", kind)], from, to]);\n\
+return el(\"div.wide\", plainTable([\"What differs\", ...heads], rows, [1, 2]));\n\
 }\n\
 async function tryPlan(plan, ticket, body, place) {\n\
 show(place, hint(\"Asking the server what it would answer ..\"));\n\
@@ -60,16 +59,14 @@ try {\n\
 const { status, text } = await post(actPath({ ...plan, ticket }, \"try\"), body);\n\
 if (isDocument({ status, text })) {\n\
 const words = documentWords(text).title;\n\
-show(place, note(\"good\", el(\"strong\", {}, \"The server would take it: \"), words));\n\
+show(place, note(\"good\", el(\"strong\", \"The server would take it: \"), words));\n\
 return true;\n\
 }\n\
-const isUntried = status === 404 && refusalNumber(text) === 0;\n\
-show(place, isUntried ? null : refusalNote(status, text));\n\
-return isUntried;\n\
+show(place, refusalNote(status, text));\n\
 } catch (error) {\n\
 show(place, errorNote(error));\n\
-return false;\n\
 }\n\
+return false;\n\
 }\n\
 function sendPlan(plan, ticket, body) {\n\
 const act = {\n\
@@ -77,24 +74,17 @@ ticket, kind: plan.kind, who: plan.who, subject: plan.subject, body, made: stamp
 order: Date.now(), tries: 0, state: \"open\", isTold: true, fault: \"\", status: 0, text: \"\",\n\
 answered: \"\",\n\
 };\n\
-const place = el(\"div\", { role: \"status\" }, el(\"p\", {}, \"Sending ..\"));\n\
-const close = button(\"Close\", () => byId(\"review\").close(), { class: \"quiet\" });\n\
+const place = el(\"div\", { role: \"status\" }, el(\"p\", \"Sending ..\"));\n\
+const close = button(\"Close\", () => byId(\"review\").close());\n\
 byId(\"review\").addEventListener(\"close\", () => {\n\
 if (waiters.delete(ticket)) showWaiting();\n\
 }, { once: true });\n\
-show(byId(\"review\"), reviewHead(plan, ticket), place, el(\"p\", { class: \"row end\" }, \
-close));\n\
+show(byId(\"review\"), reviewHead(plan, ticket), place, el(\"p.row.end\", close));\n\
 byId(\"review\").querySelector(\"h2\").focus();\n\
 waiters.set(ticket, (answered) => showOutcome(plan, answered));\n\
 void give(act).then(() => {\n\
-if (act.state === \"open\") show(place, stillWaiting(act));\n\
+if (act.state === \"open\") show(place, waitingNote(act, \"\"));\n\
 });\n\
-}\n\
-function stillWaiting(act) {\n\
-return note(\"warn\",\n\
-el(\"strong\", {}, act.fault ? `The server has a fault: ${act.fault}.` : \"No answer came.\"),\n\
-el(\"p\", {}, \"It may be done, or not. The page gives the same act again, under ticket \",\n\
-el(\"code\", {}, act.ticket), \", until the answer comes. Closing this changes nothing.\"));\n\
 }\n\
 function showOutcome(plan, act) {\n\
 const dialog = byId(\"review\");\n\
@@ -104,11 +94,11 @@ dialog.close();\n\
 if (isDone) plan.done();\n\
 };\n\
 const told = isDone\n\
-? [note(\"good\", el(\"strong\", {}, \"Done. \"), triesWords(act)), documentShown(act.text)]\n\
+? [note(\"good\", el(\"strong\", \"Done. \"), triesWords(act)), documentShown(act.text)]\n\
 : [refusalNote(act.status, act.text), triesWords(act)];\n\
 const words = isDone ? \"Done\" : \"Back to the lines\";\n\
 const after = button(words, close, { class: \"main\" });\n\
-show(dialog, reviewHead(plan, act.ticket), told, el(\"p\", { class: \"row end\" }, after));\n\
+show(dialog, reviewHead(plan, act.ticket), told, el(\"p.row.end\", after));\n\
 dialog.querySelector(\"h2\").focus();\n\
 }\n\
 ";

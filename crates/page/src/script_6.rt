@@ -42,26 +42,20 @@ last = width;\n\
 show(box, draw(width));\n\
 }).observe(box);\n\
 }\n\
-function flowBar({ coming, going, short }) {\n\
-const all = Math.max(1, coming + going + short);\n\
-const parts = [[\"coming\", coming], [\"going\", going], [\"short\", short]];\n\
-const words = `${counted(coming)} to come in, ${counted(going)} reserved to go out, ` +\n\
-`${counted(short)} short`;\n\
+function flowBar(title, parts, more = \"\") {\n\
+const all = Math.max(1, total(parts, ([, pieces]) => pieces));\n\
 let at = 0;\n\
 const shapes = parts.map(([kind, pieces]) => {\n\
-const width = (Number(pieces) / all) * 1000;\n\
+const width = (pieces / all) * 1000;\n\
 at += width;\n\
 return drawn(\"rect\", { x: at - width, y: 0, width, height: 10, class: kind });\n\
 });\n\
-const key = parts.map(([kind, pieces]) => el(\"li\", { class: String(kind) },\n\
-el(\"b\", {}, counted(Number(pieces))), ` ${FLOW_WORDS[String(kind)]}`));\n\
-return el(\"div\", { class: \"flow\" }, drawn(\"svg\", {\n\
-viewBox: \"0 0 1000 10\", preserveAspectRatio: \"none\", role: \"img\", \"aria-label\": words,\n\
-}, shapes), el(\"ul\", { class: \"key\" }, key));\n\
+const key = parts.map(([kind, pieces, words]) => el(`li.${kind}`, el(\"b\", counted(pieces)),\n\
+` ${words}`));\n\
+return el(\"div.flow\", el(\"h3\", title), drawn(\"svg\", {\n\
+viewBox: \"0 0 1000 10\", preserveAspectRatio: \"none\", \"aria-hidden\": \"true\",\n\
+}, shapes), el(\"ul.key\", key, more && el(\"li.other\", more)));\n\
 }\n\
-const FLOW_WORDS = {\n\
-coming: \"pieces to come in\", going: \"pieces reserved to go out\", short: \"pieces short\",\n\
-};\n\
 function expiryMonths(rows) {\n\
 const now = today();\n\
 const months = [...Array(12).keys()].map((ahead) => {\n\
@@ -85,7 +79,7 @@ function expiryPlot(rows) {\n\
 const months = expiryMonths(rows);\n\
 const most = Math.max(...months.map(({ pieces }) => pieces));\n\
 if (most === 0) return hint(\"Nothing on hand has a date.\");\n\
-const box = el(\"div\", { class: \"plot\" });\n\
+const box = el(\"div.plot\");\n\
 drawByWidth(box, (width) => expiryDrawing(months, most, width));\n\
 return box;\n\
 }\n\
@@ -102,10 +96,10 @@ drawn(\"rect\", {\n\
 x: at * step + step * 0.16, y: 22 + full - height, width: step * 0.68, height, rx: 2,\n\
 class: kind,\n\
 }, drawn(\"title\", {}, `${name} ${year}: ${several(pieces, \"piece\")}`)),\n\
-pieces && !isNarrow ? drawn(\"text\", { x: middle, y: 16 + full - height }, short1000(pieces))\n\
-: null,\n\
+pieces > 0 && !isNarrow &&\n\
+drawn(\"text\", { x: middle, y: 16 + full - height }, COMPACT.format(pieces)),\n\
 drawn(\"text\", { x: middle, y: full + 40 }, short),\n\
-drawn(\"text\", { x: middle, y: full + 56, class: \"year\" }, isNarrow ? \"\" : year),\n\
+drawn(\"text\", { x: middle, y: full + 56 }, isNarrow ? \"\" : year),\n\
 ];\n\
 });\n\
 const told = months.filter(({ pieces }) => pieces > 0)\n\
@@ -115,10 +109,5 @@ return drawn(\"svg\", {\n\
 viewBox: `0 0 ${width} 184`, width, height: 184, role: \"img\",\n\
 \"aria-label\": `Pieces on hand by month of expiry: ${told.join(\", \")}`,\n\
 }, bars, line);\n\
-}\n\
-function short1000(pieces) {\n\
-if (pieces < 1000) return String(pieces);\n\
-const [unit, sign] = pieces < 1e6 ? [1000, \"k\"] : [1e6, \"M\"];\n\
-return `${(pieces / unit).toFixed(pieces < 10 * unit ? 1 : 0)}${sign}`;\n\
 }\n\
 ";

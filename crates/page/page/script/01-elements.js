@@ -45,16 +45,18 @@ function fill(into, children) {
 }
 
 /**
- * An element of HTML.
- * @param {string} tag
- * @param {Record<string, any>} [traits]
- * @param {...any} children
+ * An element of HTML: its tag with its classes, as `p.row.end`; its traits, where it has any;
+ * its children.
+ * @param {string} kind
+ * @param {...any} rest
  * @returns {any}
  */
-function el(tag, traits = {}, ...children) {
+function el(kind, ...rest) {
+  const [tag, ...classes] = kind.split(".");
   const made = document.createElement(tag);
-  dress(made, traits);
-  fill(made, children);
+  if (classes.length) made.className = classes.join(" ");
+  if (rest[0]?.constructor === Object) dress(made, rest.shift());
+  fill(made, rest);
   return made;
 }
 
@@ -98,7 +100,7 @@ function button(words, pressed, traits = {}) {
  * @param {any} field
  */
 function labelled(words, field) {
-  return el("label", { class: "field" }, el("span", { class: "label" }, words), field);
+  return el("label.field", el("span.label", words), field);
 }
 
 /**
@@ -106,7 +108,7 @@ function labelled(words, field) {
  * @param {...any} children
  */
 function hint(...children) {
-  return el("p", { class: "hint" }, children);
+  return el("p.hint", children);
 }
 
 /**
@@ -116,7 +118,7 @@ function hint(...children) {
  */
 function note(kind, ...children) {
   const role = kind === "bad" ? "alert" : "status";
-  return el("div", { class: `note ${kind}`, role }, ...children);
+  return el(`div.note.${kind}`, { role }, ...children);
 }
 
 /**
@@ -125,7 +127,7 @@ function note(kind, ...children) {
  * @param {string} words
  */
 function chip(kind, words) {
-  return el("span", { class: `chip ${kind}` }, words);
+  return el(`span.chip.${kind}`, words);
 }
 
 /**
@@ -136,12 +138,15 @@ function say(words) {
   byId("said").textContent = words;
 }
 
+const WHOLE = new Intl.NumberFormat("en-US");
+const COMPACT = new Intl.NumberFormat("en-US", { notation: "compact" });
+
 /**
  * A number as people read it.
  * @param {number} value
  */
 function counted(value) {
-  return value.toLocaleString("en-US");
+  return WHOLE.format(value);
 }
 
 /**
@@ -177,6 +182,14 @@ function dayOf(text) {
 }
 
 /**
+ * CCYYMMDD of a day.
+ * @param {Date} day
+ */
+function codeOf(day) {
+  return `${day.getFullYear()}${two(day.getMonth() + 1)}${two(day.getDate())}`;
+}
+
+/**
  * CCYYMMDD as a date to read; nothing for nothing.
  * @param {string} text
  */
@@ -193,18 +206,43 @@ function daysTo(text) {
 }
 
 /**
- * A moment of now, to be shown and kept.
+ * A moment, to be shown and kept.
  * @param {Date} now
  */
 function stampOf(now) {
-  const day = `${now.getFullYear()}-${two(now.getMonth() + 1)}-${two(now.getDate())}`;
-  return `${day} ${two(now.getHours())}:${two(now.getMinutes())}`;
+  return `${dated(codeOf(now))} ${two(now.getHours())}:${two(now.getMinutes())}`;
+}
+
+/**
+ * What draws soon, and a few times a second at most, however often it is asked to; less often
+ * where drawing takes long.
+ * @param {() => void} draw
+ */
+function nowAndThen(draw) {
+  let [timer, next] = [0, 0];
+  return () => {
+    if (timer) return;
+    timer = setTimeout(() => {
+      const begun = performance.now();
+      draw();
+      const ended = performance.now();
+      [timer, next] = [0, ended + Math.max(250, 5 * (ended - begun))];
+    }, Math.max(0, next - performance.now()));
+  };
 }
 
 // What this page keeps goes to the browser's store; where there is none, as in some private
-// windows, it lasts as long as the page.
-/** @type {Map<string, string>} */
-const memory = new Map();
+// windows, or it is full, it lasts as long as the page.
+/** @type {Record<string, string>} */
+const spare = {};
+/** @type {Record<string, string>} */
+const store = (() => {
+  try {
+    return localStorage;
+  } catch {
+    return {};
+  }
+})();
 
 /**
  * What is kept under a name.
@@ -212,27 +250,22 @@ const memory = new Map();
  * @returns {string | null}
  */
 function kept(name) {
-  try {
-    return localStorage.getItem(`whx12.${name}`);
-  } catch {
-    return memory.get(name) ?? null;
-  }
+  return spare[`whx12.${name}`] ?? store[`whx12.${name}`] ?? null;
 }
 
 /**
- * Keeps a text, or forgets it where it is null; whether it outlasts the page.
+ * Keeps a text, or forgets it where it is null.
  * @param {string} name
  * @param {string | null} text
  */
 function keep(name, text) {
+  const at = `whx12.${name}`;
+  delete spare[at];
+  if (text === null) return void delete store[at];
   try {
-    if (text === null) localStorage.removeItem(`whx12.${name}`);
-    else localStorage.setItem(`whx12.${name}`, text);
-    return true;
+    store[at] = text;
   } catch {
-    if (text === null) memory.delete(name);
-    else memory.set(name, text);
-    return false;
+    spare[at] = text;
   }
 }
 
@@ -241,10 +274,6 @@ function keep(name, text) {
  * @param {string} beginning
  */
 function keptNames(beginning) {
-  try {
-    const names = Object.keys(localStorage).filter((name) => name.startsWith("whx12."));
-    return names.map((name) => name.slice(6)).filter((name) => name.startsWith(beginning));
-  } catch {
-    return [...memory.keys()].filter((name) => name.startsWith(beginning));
-  }
+  const names = Object.keys({ ...store, ...spare });
+  return names.filter((name) => name.startsWith(`whx12.${beginning}`)).map((name) => name.slice(6));
 }

@@ -27,23 +27,23 @@ const REFUSALS = {
   20: ["Nobody is enrolled under this id.", "Choose the depositor from the list."],
   21: [
     "This ticket was given before, with another act or other lines.",
-    "Look at the depositor's outbox for what was done, then review again: you get a new ticket.",
+    "See the outbox for what was done, then review again: you get a new ticket.",
   ],
   22: [
     "No advice with this shipment number has passed.",
-    "Compare the delivery note. The depositor's 943 may not be here, or was rejected.",
+    "Compare the delivery note. The 943 may not be here, or was rejected.",
   ],
   23: [
     "This advice was counted before.",
-    "Put amounts right by a recount of the lots that differ.",
+    "Recount the lots that differ.",
   ],
   24: [
     "No order with this number has passed.",
-    "Compare the number. The depositor's 940 may not be here, or was rejected.",
+    "Compare the number. The 940 may not be here, or was rejected.",
   ],
   25: [
     "This order was picked before, perhaps by someone else just now.",
-    "The 945 in the depositor's outbox says what was shipped. Don't ship it again.",
+    "The 945 in the outbox says what was shipped. Don't ship it again.",
   ],
   26: [
     "A line has more of a lot than this order has reserved.",
@@ -51,7 +51,7 @@ const REFUSALS = {
   ],
   27: [
     "A line names a lot that no count has named.",
-    "Look for a typing error. Else name the lot in the depositor's next count.",
+    "Look for a typing error. Else name the lot in the next count.",
   ],
   28: [
     "A line sets less than open orders have reserved.",
@@ -68,24 +68,18 @@ const REFUSALS = {
     "Use capitals, digits, - and . alone, and whole numbers.",
   ],
   33: ["Over 999 lines.", "Split it into several acts."],
-  34: ["The depositor has used up its numbers.", "It must be enrolled under a second id."],
+  34: ["The depositor has used up its numbers.", "Enrol it under a second id."],
 };
 
 /** What a status means that isn't the book's. @type {Record<number, [string, string]>} */
 const STATUSES = {
-  400: ["The server couldn't read the request.", "Load this page again."],
   403: [
     "The server turned this page away.",
     "Open it at the clerks' own address, not through another name or page.",
   ],
-  404: ["The server doesn't do this.", "It must be started for clerks: with --clerks."],
-  421: [
-    "The server doesn't know the name in this page's address.",
-    "Open it by the address in digits, or have the name added by --host.",
-  ],
   503: [
     "The server met a fault.",
-    "It stays without an answer until the server is well: look at its disk, then its journal.",
+    "Look at the server's disk, then at its journal.",
   ],
 };
 
@@ -125,7 +119,7 @@ function refusalWords(status, text) {
  */
 function refusalNote(status, text) {
   const { what, cure, line } = refusalWords(status, text);
-  return note("bad", el("strong", {}, what), el("p", {}, cure), el("p", { class: "raw" }, line));
+  return note("bad", el("strong", what), el("p", cure), el("p.raw", line));
 }
 
 /**
@@ -135,10 +129,10 @@ function refusalNote(status, text) {
 function errorNote(error) {
   if (error instanceof Refused) return refusalNote(error.status, error.text);
   if (error instanceof Lost) {
-    const cure = "Is the server running, and this device in its network? Then try again.";
-    return note("bad", el("strong", {}, "The server doesn't answer."), el("p", {}, cure));
+    const cure = "Is the server running, and this device in its network?";
+    return note("bad", el("strong", "The server doesn't answer."), el("p", cure));
   }
-  return note("bad", el("strong", {}, "This can't be done here."), el("p", {}, error.message));
+  return note("bad", el("strong", "This can't be done here."), el("p", error.message));
 }
 
 /**

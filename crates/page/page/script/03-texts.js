@@ -8,6 +8,10 @@
 /** @typedef {{number: string, lines: number, pieces: number, order: string}} OpenAdvice */
 /** @typedef {{number: string, lines: number, to: string, short: number}} OpenOrder */
 /** @typedef {{number: number, kind: string, state: string}} Sent */
+/**
+ * @typedef {{who: string, number: number, kind: string, at: Date, act: string, title: string,
+ *   into: number, out: number, change: number, rejects: string}} Told
+ */
 
 /**
  * The lines of a text that hold something.
@@ -57,6 +61,7 @@ function sheetOf(lines) {
  */
 function openWork(text) {
   const advices = [];
+  /** @type {any[]} */
   const orders = [];
   let isOrders = false;
   for (const line of linesOf(text).slice(1)) {
@@ -64,7 +69,7 @@ function openWork(text) {
     const order = /^(\S+) +(\d+) (.*)$/.exec(line);
     const advice = /^(\S+) +(\d+) +(\d+) (\S+)$/.exec(line);
     if (/^order +lines ship to$/.test(line)) isOrders = true;
-    else if (isOrders && short) orders[orders.length - 1].short += Number(short[1]);
+    else if (isOrders && short) orders.at(-1).short += Number(short[1]);
     else if (isOrders && order) {
       orders.push({ number: order[1], lines: +order[2], to: order[3], short: 0 });
     } else if (advice) {
@@ -138,7 +143,7 @@ const SEGMENT_NAMES = {
 
 /** What the kinds of texts are. @type {Record<string, string>} */
 const KIND_NAMES = {
-  ANS: "answer", 944: "goods counted", 945: "goods shipped", 947: "stock recounted",
+  944: "goods counted", 945: "goods shipped", 947: "stock recounted",
 };
 
 /** What the states of documents are. @type {Record<string, [string, string]>} */
@@ -153,66 +158,108 @@ const STATE_NAMES = {
 function segmentList(text) {
   const segments = segmentsOf(text);
   const mark = text.startsWith("ISA") ? text[3] : "*";
-  const shown = segments.map((elements) => el("li", {},
-    el("code", {}, elements.join(mark)),
-    el("span", { class: "what" }, SEGMENT_NAMES[elements[0]] ?? ""),
+  const shown = segments.map((elements) => el("li",
+    el("code", elements.join(mark)),
+    el("span.what", SEGMENT_NAMES[elements[0]] ?? ""),
   ));
-  return el("ol", { class: "segments" }, shown);
+  return el("ol.segments", shown);
 }
 
 /**
- * Segments of a document in words: a title, and lines of cells below headings.
+ * A document in words: a title, and lines of cells below headings; what it tells of, and how many
+ * pieces came in, went out, or were corrected.
  * @param {string} text
  */
 function documentWords(text) {
   const segments = segmentsOf(text);
   const kind = segments.find(([id]) => id === "ST")?.[1] ?? "";
-  if (kind === "944") return receiptWords(segments);
-  if (kind === "945") return shipmentWords(segments);
-  if (kind === "947") return adjustmentWords(segments);
-  return { title: "An answer to what the depositor sent", heads: [], rows: [] };
+  const words = kind === "944" ? receiptWords : kind === "945" ? shipmentWords
+    : kind === "947" ? adjustmentWords : answerWords;
+  const none = { act: "", heads: [], rows: [], into: 0, out: 0, change: 0, rejects: "" };
+  return { ...none, ...words(segments) };
+}
+
+/** @param {string[][]} segments */
+function answerWords(segments) {
+  const bad = segments.filter(([id, verdict]) => id === "AK5" && verdict !== "A").length;
+  const all = segments.filter(([id]) => id === "AK5").length;
+  // A group that is rejected as a whole has no AK5.
+  const groups = segments.filter(([id, verdict]) => id === "AK9" && verdict === "R").length;
+  const rejects = bad ? `${bad} of ${several(all, "set")}` : groups ? several(groups, "group") : "";
+  const title = `An answer to what the depositor sent${rejects && `, rejects ${rejects}`}`;
+  return { title, rejects };
 }
 
 /** @param {string[][]} segments */
 function receiptWords(segments) {
+  /** @type {any[]} */
   const rows = [];
-  let title = "944";
+  let [title, act, into] = ["944", "", 0];
   for (const [id, ...of] of segments) {
-    if (id === "W17") title = `944 number ${of[2]}: shipment ${of[4]} of order ${of[3] || "-"}`;
+    if (id === "W17") {
+      title = `944 number ${of[2]}: shipment ${of[4]} of order ${of[3] || "-"}`;
+      act = `Count of ${of[4]}`;
+    }
     if (id === "W07") rows.push([of[4], "", counted(+of[0])]);
-    if (id === "N9") rows[rows.length - 1][1] = of[1];
-    if (id === "W14") title += `, ${counted(+of[0])} of ${counted(+of[1])} announced`;
+    if (id === "N9") rows.at(-1)[1] = of[1];
+    if (id === "W14") {
+      title += `, ${counted(+of[0])} of ${counted(+of[1])} announced`;
+      into = +of[0];
+    }
   }
-  return { title, heads: ["Item", "Lot", "Received"], rows };
+  return { title, act, heads: ["Item", "Lot", "Received"], rows, into };
 }
 
 /** @param {string[][]} segments */
 function shipmentWords(segments) {
+  /** @type {any[]} */
   const rows = [];
-  let title = "945";
+  let [title, act, out] = ["945", "", 0];
   for (const [id, ...of] of segments) {
-    if (id === "W06") title = `945 number ${of[3]}: order ${of[1]}`;
+    if (id === "W06") [title, act] = [`945 number ${of[3]}: order ${of[1]}`, `Pick of ${of[1]}`];
     if (id === "W12") {
       const [, ordered, shipped, short] = of.map(Number);
       const rest = short ? `, ${counted(short)} short` : "";
       rows.push([of[7], "all lots", `${counted(shipped)} of ${counted(ordered)}${rest}`]);
     }
     if (id === "N9") rows.push(["", of[1], counted(+of[2])]);
-    if (id === "W03") title += `, ${several(+of[0], "piece")} shipped`;
+    if (id === "W03") {
+      title += `, ${several(+of[0], "piece")} shipped`;
+      out = +of[0];
+    }
   }
-  return { title, heads: ["Item", "Lot", "Shipped"], rows };
+  return { title, act, heads: ["Item", "Lot", "Shipped"], rows, out };
 }
 
 /** @param {string[][]} segments */
 function adjustmentWords(segments) {
+  /** @type {any[]} */
   const rows = [];
-  let title = "947";
+  let [title, change] = ["947", 0];
   for (const [id, ...of] of segments) {
     if (id === "W15") title = `947 number ${of[1]}: stock recounted`;
-    if (id === "W19") rows.push([of[5], "", `${+of[1] > 0 ? "+" : ""}${counted(+of[1])}`]);
-    if (id === "N9") rows[rows.length - 1][1] = of[1];
+    if (id === "W19") {
+      rows.push([of[5], "", `${+of[1] > 0 ? "+" : ""}${counted(+of[1])}`]);
+      change += +of[1];
+    }
+    if (id === "N9") rows.at(-1)[1] = of[1];
   }
-  return { title, heads: ["Item", "Lot", "Difference"], rows };
+  return { title, act: "Recount", heads: ["Item", "Lot", "Difference"], rows, change };
+}
+
+/**
+ * What a text tells in a line: its moment is that of its ISA, which is UTC.
+ * @param {string} who
+ * @param {Sent} sent
+ * @param {string} text
+ * @returns {Told}
+ */
+function toldBy(who, { number, kind }, text) {
+  const [day = "", time = ""] = segmentsOf(text)[0].slice(9, 11);
+  const [year, month, date] = [0, 2, 4].map((at) => +day.slice(at, at + 2));
+  const at = new Date(Date.UTC(2000 + year, month - 1, date, +time.slice(0, 2), +time.slice(2)));
+  const { act, title, into, out, change, rejects } = documentWords(text);
+  return { who, number, kind, at, act, title, into, out, change, rejects };
 }
 
 /**
@@ -221,10 +268,10 @@ function adjustmentWords(segments) {
  */
 function documentShown(text) {
   const { title, heads, rows } = documentWords(text);
-  return el("div", { class: "document" },
-    el("h3", {}, title),
-    rows.length ? el("div", { class: "wide" }, plainTable(heads, rows, [2])) : null,
+  return el("div.document",
+    el("h3", title),
+    rows.length ? el("div.wide", plainTable(heads, rows, [2])) : null,
     el("details", { open: rows.length === 0 },
-      el("summary", {}, "As it went out, by segment"), segmentList(text)),
+      el("summary", "As it went out, by segment"), segmentList(text)),
   );
 }

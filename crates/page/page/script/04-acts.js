@@ -32,9 +32,7 @@ function device() {
 function newTicket() {
   const number = (Number(kept("number") ?? "0") % 9999) + 1;
   keep("number", String(number));
-  const now = new Date();
-  const day = `${two(now.getFullYear() % 100)}${two(now.getMonth() + 1)}${two(now.getDate())}`;
-  return `${clerk()}-${day}-${device()}-${number}`;
+  return `${clerk()}-${codeOf(new Date()).slice(2)}-${device()}-${number}`;
 }
 
 /**
@@ -171,7 +169,7 @@ function outcomeWords(act) {
  */
 function triesWords(act) {
   if (act.tries < 2) return "";
-  return `Given ${act.tries} times under ticket ${act.ticket}; it counts once.`;
+  return `Given ${act.tries} times under ticket ${act.ticket}: this is its answer, it counts once.`;
 }
 
 /** Shows at the top which acts have no answer, and answers that nobody has seen. */
@@ -185,7 +183,7 @@ function showWaiting() {
   const notes = shown.map((act) => {
     const told = [act.ticket, act.state, act.fault].join(" ");
     const made = there.get(told)
-      ?? (act.state === "open" ? waitingNote(act) : answeredNote(act));
+      ?? (act.state === "open" ? waitingAct(act) : answeredNote(act));
     made.dataset.told = told;
     return made;
   });
@@ -193,19 +191,28 @@ function showWaiting() {
   if (!isSame) show(place, notes);
 }
 
+/**
+ * What is told of an act that has no answer.
+ * @param {Act} act
+ * @param {string} lead
+ * @param {...any} more
+ */
+function waitingNote({ ticket, fault }, lead, ...more) {
+  const why = fault ? `The server has a fault: ${fault}.` : "No answer came.";
+  return note("warn", el("strong", lead, why),
+    el("p", "It may be done, or not. The page gives it again every few seconds under ticket ",
+      el("code", ticket), ", until the answer comes; it counts once."), more);
+}
+
 /** @param {Act} act */
-function waitingNote(act) {
-  const why = act.fault ? `The server has a fault (${act.fault}).` : "No answer came.";
+function waitingAct(act) {
   const aside = button("Set aside", () => {
     if (aside.dataset.sure) return setAside(act);
     aside.dataset.sure = "yes";
     aside.textContent = "It may have been done. Set aside?";
-  }, { class: "quiet" });
-  return note("warn",
-    el("strong", {}, `${actWords(act)}: ${why}`),
-    el("p", {}, `Ticket ${act.ticket}. The page gives it again every few seconds under the same `,
-      "ticket; whatever came of the first time, it counts once."),
-    el("p", { class: "row" }, button("Give it again now", () => void giveAgain()), aside));
+  });
+  return waitingNote(act, `${actWords(act)}: `,
+    el("p.row", button("Give it again now", () => void giveAgain()), aside));
 }
 
 /** @param {Act} act */
@@ -218,10 +225,10 @@ function answeredNote(act) {
   };
   const isDone = act.status === 200;
   return note(isDone ? "good" : "bad",
-    el("strong", {}, `${actWords(act)}: the answer came.`),
-    el("p", {}, `Ticket ${act.ticket}: ${outcomeWords(act)}. ${triesWords(act)}`),
+    el("strong", `${actWords(act)}: the answer came.`),
+    el("p", `Ticket ${act.ticket}: ${outcomeWords(act)}. ${triesWords(act)}`),
     isDone ? documentShown(act.text) : refusalNote(act.status, act.text),
-    el("p", { class: "row" }, button("Seen", seen)));
+    el("p.row", button("Seen", seen)));
 }
 
 /** @param {Act} act */
@@ -239,6 +246,7 @@ function startActs() {
   field.addEventListener("input", () => {
     field.value = field.value.toUpperCase().replace(/[^A-Z0-9]/g, "").slice(0, 4);
     field.classList.remove("missing");
+    byId("clerk-hint").classList.add("unseen");
     keep("clerk", field.value);
   });
   addEventListener("storage", showWaiting);

@@ -3,7 +3,7 @@
 /** @typedef {{kind: string, item: string, lot: string, from: string, to: string}} Difference */
 /**
  * @typedef {{kind: "count" | "pick" | "recount", who: string, subject: string, lines: Line[],
- *   heads: string[], differences: Difference[], same: string, questions: string[],
+ *   heads: string[], differences: Difference[], same: string, questions: any[],
  *   done: () => void}} Plan
  */
 
@@ -15,8 +15,8 @@ function hasClerk() {
   if (clerk() !== "") return true;
   const field = byId("clerk");
   field.classList.add("missing");
+  byId("clerk-hint").classList.remove("unseen");
   field.focus();
-  say("Give your initials first");
   return false;
 }
 
@@ -30,23 +30,24 @@ function review(plan) {
   const ticket = newTicket();
   const body = sheetOf(plan.lines);
   const open = openActLike(plan);
-  const tried = el("div", { class: "tried" });
+  const tried = el("div.tried");
   const send = button(`Send the ${plan.kind}`, () => sendPlan(plan, ticket, body), {
     class: "main", disabled: true,
   });
-  const boxes = plan.questions.map((words) => el("label", { class: "question" },
-    el("input", { type: "checkbox", on: { change: () => admit() } }), el("span", {}, words)));
-  const sure = () => boxes.every((box) => box.querySelector("input").checked);
-  let isAdmitted = false;
-  const admit = () => send.toggleAttribute("disabled", !(isAdmitted && sure()));
+  const boxes = plan.questions.filter(Boolean).map((words) => el("label.question",
+    el("input", { type: "checkbox", on: { change: () => admit() } }), el("span", words)));
+  let isGood = false;
+  const admit = () => {
+    send.disabled = !isGood || boxes.some((box) => !box.querySelector("input").checked);
+  };
   show(dialog, reviewHead(plan, ticket), differenceTable(plan), boxes,
     open ? note("bad", `Ticket ${open.ticket} of the same has no answer yet: wait for it.`) : tried,
-    el("p", { class: "row end" }, button("Back", () => dialog.close(), { class: "quiet" }), send));
+    el("p.row.end", button("Back", () => dialog.close()), send));
   dialog.showModal();
   dialog.querySelector("h2").focus();
   if (open) return;
-  void tryPlan(plan, ticket, body, tried).then((isGood) => {
-    isAdmitted = isGood;
+  void tryPlan(plan, ticket, body, tried).then((would) => {
+    isGood = would;
     admit();
   });
 }
@@ -56,24 +57,23 @@ function review(plan) {
  * @param {string} ticket
  */
 function reviewHead(plan, ticket) {
-  const pieces = plan.lines.reduce((sum, line) => sum + line.quantity, 0);
+  const pieces = total(plan.lines, (line) => line.quantity);
   const size = `${several(plan.lines.length, "line")}, ${several(pieces, "piece")}`;
-  return el("header", {},
+  return el("header",
     el("h2", { id: "review-title", tabindex: "-1" }, actWords(plan)),
-    el("p", { class: "ticket" }, "Ticket ", el("code", {}, ticket), ` \u00b7 ${size}`));
+    el("p.ticket", "Ticket ", el("code", ticket), ` \u00b7 ${size}`));
 }
 
 /** @param {Plan} plan */
 function differenceTable({ heads, differences, same }) {
   if (differences.length === 0) return note("good", same);
   const rows = differences.map(({ kind, item, lot, from, to }) => [
-    [el("b", {}, item), ` ${lot} `, chip(GRAVE.includes(kind) ? "bad" : "warn", kind)], from, to]);
-  return el("div", { class: "wide" }, plainTable(["What differs", ...heads], rows, [1, 2]));
+    [el("b", item), ` ${lot} `, chip(GRAVE.includes(kind) ? "bad" : "warn", kind)], from, to]);
+  return el("div.wide", plainTable(["What differs", ...heads], rows, [1, 2]));
 }
 
 /**
- * Asks what the act would be answered now; whether it may be sent. A server that can't try
- * gives no number, and the act may be sent untried.
+ * Asks what the act would be answered now; whether it may be sent.
  * @param {Plan} plan
  * @param {string} ticket
  * @param {string} body
@@ -85,16 +85,14 @@ async function tryPlan(plan, ticket, body, place) {
     const { status, text } = await post(actPath({ ...plan, ticket }, "try"), body);
     if (isDocument({ status, text })) {
       const words = documentWords(text).title;
-      show(place, note("good", el("strong", {}, "The server would take it: "), words));
+      show(place, note("good", el("strong", "The server would take it: "), words));
       return true;
     }
-    const isUntried = status === 404 && refusalNumber(text) === 0;
-    show(place, isUntried ? null : refusalNote(status, text));
-    return isUntried;
+    show(place, refusalNote(status, text));
   } catch (error) {
     show(place, errorNote(error));
-    return false;
   }
+  return false;
 }
 
 /**
@@ -110,26 +108,18 @@ function sendPlan(plan, ticket, body) {
     order: Date.now(), tries: 0, state: "open", isTold: true, fault: "", status: 0, text: "",
     answered: "",
   };
-  const place = el("div", { role: "status" }, el("p", {}, "Sending .."));
-  const close = button("Close", () => byId("review").close(), { class: "quiet" });
+  const place = el("div", { role: "status" }, el("p", "Sending .."));
+  const close = button("Close", () => byId("review").close());
   // Once this is closed, the answer stands at the top of the page when it comes.
   byId("review").addEventListener("close", () => {
     if (waiters.delete(ticket)) showWaiting();
   }, { once: true });
-  show(byId("review"), reviewHead(plan, ticket), place, el("p", { class: "row end" }, close));
+  show(byId("review"), reviewHead(plan, ticket), place, el("p.row.end", close));
   byId("review").querySelector("h2").focus();
   waiters.set(ticket, (answered) => showOutcome(plan, answered));
   void give(act).then(() => {
-    if (act.state === "open") show(place, stillWaiting(act));
+    if (act.state === "open") show(place, waitingNote(act, ""));
   });
-}
-
-/** @param {Act} act */
-function stillWaiting(act) {
-  return note("warn",
-    el("strong", {}, act.fault ? `The server has a fault: ${act.fault}.` : "No answer came."),
-    el("p", {}, "It may be done, or not. The page gives the same act again, under ticket ",
-      el("code", {}, act.ticket), ", until the answer comes. Closing this changes nothing."));
 }
 
 /**
@@ -144,10 +134,10 @@ function showOutcome(plan, act) {
     if (isDone) plan.done();
   };
   const told = isDone
-    ? [note("good", el("strong", {}, "Done. "), triesWords(act)), documentShown(act.text)]
+    ? [note("good", el("strong", "Done. "), triesWords(act)), documentShown(act.text)]
     : [refusalNote(act.status, act.text), triesWords(act)];
   const words = isDone ? "Done" : "Back to the lines";
   const after = button(words, close, { class: "main" });
-  show(dialog, reviewHead(plan, act.ticket), told, el("p", { class: "row end" }, after));
+  show(dialog, reviewHead(plan, act.ticket), told, el("p.row.end", after));
   dialog.querySelector("h2").focus();
 }

@@ -61,31 +61,25 @@ function drawByWidth(box, draw) {
 }
 
 /**
- * The bar of pieces that are to come in, to go out, and short.
- * @param {{coming: number, going: number, short: number}} pieces
+ * A bar of pieces, by parts of a kind with its words.
+ * @param {string} title
+ * @param {[string, number, string][]} parts
+ * @param {string} [more]
  */
-function flowBar({ coming, going, short }) {
-  const all = Math.max(1, coming + going + short);
-  const parts = [["coming", coming], ["going", going], ["short", short]];
-  const words = `${counted(coming)} to come in, ${counted(going)} reserved to go out, ` +
-    `${counted(short)} short`;
+function flowBar(title, parts, more = "") {
+  const all = Math.max(1, total(parts, ([, pieces]) => pieces));
   let at = 0;
   const shapes = parts.map(([kind, pieces]) => {
-    const width = (Number(pieces) / all) * 1000;
+    const width = (pieces / all) * 1000;
     at += width;
     return drawn("rect", { x: at - width, y: 0, width, height: 10, class: kind });
   });
-  const key = parts.map(([kind, pieces]) => el("li", { class: String(kind) },
-    el("b", {}, counted(Number(pieces))), ` ${FLOW_WORDS[String(kind)]}`));
-  return el("div", { class: "flow" }, drawn("svg", {
-    viewBox: "0 0 1000 10", preserveAspectRatio: "none", role: "img", "aria-label": words,
-  }, shapes), el("ul", { class: "key" }, key));
+  const key = parts.map(([kind, pieces, words]) => el(`li.${kind}`, el("b", counted(pieces)),
+    ` ${words}`));
+  return el("div.flow", el("h3", title), drawn("svg", {
+    viewBox: "0 0 1000 10", preserveAspectRatio: "none", "aria-hidden": "true",
+  }, shapes), el("ul.key", key, more && el("li.other", more)));
 }
-
-/** @type {Record<string, string>} */
-const FLOW_WORDS = {
-  coming: "pieces to come in", going: "pieces reserved to go out", short: "pieces short",
-};
 
 /**
  * Pieces on hand by the month in which they expire: expired ones, the next twelve months, later.
@@ -119,7 +113,7 @@ function expiryPlot(rows) {
   const months = expiryMonths(rows);
   const most = Math.max(...months.map(({ pieces }) => pieces));
   if (most === 0) return hint("Nothing on hand has a date.");
-  const box = el("div", { class: "plot" });
+  const box = el("div.plot");
   drawByWidth(box, (width) => expiryDrawing(months, most, width));
   return box;
 }
@@ -142,10 +136,10 @@ function expiryDrawing(months, most, width) {
         x: at * step + step * 0.16, y: 22 + full - height, width: step * 0.68, height, rx: 2,
         class: kind,
       }, drawn("title", {}, `${name} ${year}: ${several(pieces, "piece")}`)),
-      pieces && !isNarrow ? drawn("text", { x: middle, y: 16 + full - height }, short1000(pieces))
-        : null,
+      pieces > 0 && !isNarrow &&
+        drawn("text", { x: middle, y: 16 + full - height }, COMPACT.format(pieces)),
       drawn("text", { x: middle, y: full + 40 }, short),
-      drawn("text", { x: middle, y: full + 56, class: "year" }, isNarrow ? "" : year),
+      drawn("text", { x: middle, y: full + 56 }, isNarrow ? "" : year),
     ];
   });
   const told = months.filter(({ pieces }) => pieces > 0)
@@ -155,14 +149,4 @@ function expiryDrawing(months, most, width) {
     viewBox: `0 0 ${width} 184`, width, height: 184, role: "img",
     "aria-label": `Pieces on hand by month of expiry: ${told.join(", ")}`,
   }, bars, line);
-}
-
-/**
- * A number short enough for a bar.
- * @param {number} pieces
- */
-function short1000(pieces) {
-  if (pieces < 1000) return String(pieces);
-  const [unit, sign] = pieces < 1e6 ? [1000, "k"] : [1e6, "M"];
-  return `${(pieces / unit).toFixed(pieces < 10 * unit ? 1 : 0)}${sign}`;
 }

@@ -20,7 +20,8 @@ function compared(one, other) {
 }
 
 /**
- * A table, and `put`, which gives it other rows. `totals` makes the cells of its last line.
+ * A table, and `put`, which gives it other rows, of which so many are shown. They are sorted by a
+ * column, by none where `by` is -1. `totals` makes the cells of its last line.
  * @param {{label: string, columns: Column[], by?: number, none: string,
  *   totals?: (rows: any[]) => any[], mark?: (row: any) => string}} how
  */
@@ -28,38 +29,53 @@ function tableOf({ label, columns, by = 0, none, totals, mark }) {
   const sorted = { by, isDown: false, most: MOST_ROWS };
   /** @type {any[]} */
   let rows = [];
-  const box = el("div", { class: "table" });
+  const box = el("div.table");
   const press = (at) => {
     sorted.isDown = sorted.by === at ? !sorted.isDown : false;
     sorted.by = at;
     render();
-    box.querySelectorAll("th button")[at].focus();
   };
   const line = (row) => el("tr", { class: mark ? mark(row) : "" }, columns.map((column) =>
     cellOf(column, column.cell ? column.cell(row) : shownValue(column, row))));
-  const foot = (sums) => el("tfoot", {}, el("tr", {}, columns.map((column, at) =>
+  const foot = (sums) => el("tfoot", el("tr", columns.map((column, at) =>
     cellOf(column, sums[at]))));
-  const render = () => {
+  const render = (most = sorted.most) => keepFocus(box, () => {
     if (rows.length === 0) return show(box, hint(none));
-    const { value } = columns[sorted.by];
+    const value = columns[sorted.by]?.value ?? (() => null);
     const sign = sorted.isDown ? -1 : 1;
     const all = [...rows].sort((one, other) => sign * compared(value(one), value(other)));
     const heads = columns.map((column, at) => headOf(column, at, sorted, () => press(at)));
-    const more = button(`Show all ${counted(all.length)} rows`, () => {
-      sorted.most = all.length;
+    const left = all.length - most;
+    const more = button(`Show more: ${counted(left)} rows are left`, () => {
+      sorted.most += 5 * MOST_ROWS;
       render();
-    }, { class: "quiet" });
+    });
     show(box, el("table", { "aria-label": label },
-      el("thead", {}, el("tr", {}, heads)),
-      el("tbody", {}, all.slice(0, sorted.most).map(line)), totals && foot(totals(rows))),
-    all.length > sorted.most && more);
-  };
-  const put = (others) => {
+      el("thead", el("tr", heads)),
+      el("tbody", all.slice(0, most).map(line)), totals && foot(totals(rows))),
+    left > 0 && more);
+  });
+  const put = (others, most) => {
     rows = others;
-    render();
+    render(most);
   };
   put([]);
   return { box, put };
+}
+
+/**
+ * Draws a box anew; what has the focus in it has it afterwards.
+ * @param {Element} box
+ * @param {() => void} draw
+ */
+function keepFocus(box, draw) {
+  const at = document.activeElement;
+  const had = box.contains(at) ? at?.textContent : null;
+  draw();
+  if (had === null) return;
+  /** @type {any[]} */
+  const all = [...box.querySelectorAll("a, button")];
+  all.find((it) => it.textContent === had)?.focus({ preventScroll: true });
 }
 
 /**
@@ -71,7 +87,7 @@ function tableOf({ label, columns, by = 0, none, totals, mark }) {
  */
 function headOf({ name, isNumber }, at, { by, isDown }, pressed) {
   const sort = by !== at ? "none" : isDown ? "descending" : "ascending";
-  const arrow = el("span", { class: "arrow", "aria-hidden": "true" });
+  const arrow = el("span.arrow", { "aria-hidden": "true" });
   const pressable = el("button", { type: "button", on: { click: pressed } }, name, arrow);
   return el("th", { scope: "col", class: isNumber ? "number" : "", "aria-sort": sort }, pressable);
 }
@@ -85,9 +101,9 @@ function headOf({ name, isNumber }, at, { by, isDown }, pressed) {
 function plainTable(heads, rows, numbers) {
   const kind = (at) => ({ class: numbers.includes(at) ? "number" : "" });
   const head = heads.map((words, at) => el("th", { scope: "col", ...kind(at) }, words));
-  const lines = rows.map((cells) => el("tr", {}, cells.map((it, at) => el("td", kind(at), it))));
-  return el("table", { class: "plain" }, el("thead", {}, el("tr", {}, head)),
-    el("tbody", {}, lines));
+  const lines = rows.map((cells) => el("tr", cells.map((it, at) => el("td", kind(at), it))));
+  return el("table.plain", el("thead", el("tr", head)),
+    el("tbody", lines));
 }
 
 /**
@@ -109,14 +125,24 @@ function cellOf({ name, isNumber, isText }, shown) {
   return el("td", { class: kind, "data-name": name }, shown);
 }
 
+/** From when on goods aren't expired, and don't expire soon; by the minute. */
+const fresh = { at: 0, from: "", after: "" };
+
 /**
- * Whether goods are expired, or expire within 30 days; nothing else.
+ * Whether goods are expired, or expire within 30 days; nothing else. Dates are compared as texts,
+ * since a house has many.
  * @param {string} expiry
  */
 function freshness(expiry) {
-  const days = daysTo(expiry);
-  if (days === null || days > 30) return "";
-  return days < 0 ? "expired" : "soon";
+  const now = Math.floor(Date.now() / 60000);
+  if (now !== fresh.at) {
+    const day = today();
+    Object.assign(fresh, { at: now, from: codeOf(day) });
+    day.setDate(day.getDate() + 30);
+    fresh.after = codeOf(day);
+  }
+  if (!expiry || expiry > fresh.after) return "";
+  return expiry < fresh.from ? "expired" : "soon";
 }
 
 /**
@@ -130,14 +156,6 @@ function expiryShown(expiry) {
   const near = days === 0 ? "today" : `in ${several(days, "day")}`;
   return [`${dated(expiry)} `, chip(kind === "expired" ? "bad" : "warn",
     kind === "expired" ? "expired" : near)];
-}
-
-/**
- * When goods expire, in a line of text; nothing where they don't.
- * @param {string | undefined} expiry
- */
-function expiryTold(expiry) {
-  return expiry ? [el("small", {}, "expires "), expiryShown(expiry)] : null;
 }
 
 /**
@@ -157,7 +175,7 @@ function total(rows, amount) {
  */
 function tile(value, words, kind = "") {
   const shown = typeof value === "number" ? counted(value) : value;
-  return el("div", { class: `tile ${kind}` }, el("b", {}, shown), el("span", {}, words));
+  return el(`div.tile.${kind}`, el("b", shown), el("span", words));
 }
 
 /**
@@ -166,7 +184,7 @@ function tile(value, words, kind = "") {
  * @param {...any} children
  */
 function card(title, ...children) {
-  return el("section", { class: "card" }, el("h2", {}, title), children);
+  return el("section.card", el("h2", title), children);
 }
 
 /**

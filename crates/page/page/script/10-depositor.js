@@ -35,10 +35,10 @@ function stockCard(rows) {
     table.put(rows.filter(({ item, lot, onHand, expiry }) => `${item} ${lot}`.includes(text) &&
       (!only.checked || (onHand > 0 && freshness(expiry) !== ""))));
   };
-  const scan = scanField("Search item or lot", narrow, narrow);
+  const scan = scanField("Search item or lot", narrow, nowAndThen(narrow));
   narrow();
-  return card("Stock", el("div", { class: "tools" }, scan.box,
-    el("label", { class: "check" }, only, " Expired or expiring soon")), table.box);
+  return card("Stock", el("div.tools", scan.box,
+    el("label.check", only, " Expired or expiring soon")), table.box);
 }
 
 /**
@@ -47,13 +47,14 @@ function stockCard(rows) {
  * @param {Sent[]} sent
  */
 function outboxCard(who, sent) {
-  const list = el("ul", { class: "outbox" });
+  const list = el("ul.outbox");
+  const newest = [...sent].reverse();
+  const more = el("li", button("Show more", () => render(10 * MOST_SENT)));
+  let shown = 0;
   const render = (most) => {
-    const shown = [...sent].reverse().slice(0, most).map((it) => sentItem(who, it));
-    const more = button(`Show all ${counted(sent.length)} texts`, () => render(sent.length), {
-      class: "quiet",
-    });
-    show(list, shown, sent.length > most ? el("li", {}, more) : null);
+    more.remove();
+    fill(list, newest.slice(shown, shown += most).map((it) => sentItem(who, it)));
+    if (shown < sent.length) list.append(more);
   };
   render(MOST_SENT);
   const none = hint("Nothing went out yet.");
@@ -65,7 +66,7 @@ function outboxCard(who, sent) {
  * @param {Sent} sent
  */
 function sentItem(who, { number, kind, state }) {
-  const place = el("div", {});
+  const place = el("div");
   const name = kind === "ANS" ? "Answer" : `${kind} ${KIND_NAMES[kind] ?? ""}`;
   const opened = async () => {
     if (!details.open || place.childNodes.length) return;
@@ -76,9 +77,9 @@ function sentItem(who, { number, kind, state }) {
     }
   };
   const details = el("details", { on: { toggle: opened } },
-    el("summary", {}, el("b", {}, number), el("span", {}, name),
+    el("summary", el("b", number), el("span", name),
       stateChip(state)), place);
-  return el("li", {}, details);
+  return el("li", details);
 }
 
 /**
@@ -95,17 +96,8 @@ function stateChip(state) {
  * @param {string} who
  */
 async function depositorView(view, who) {
-  const names = await depositors();
-  const choice = depositorChoice(names, who, (name) => {
-    location.hash = `depositor/${name}`;
-  });
-  const head = el("div", { class: "head" }, el("h1", {}, who || "Depositor"), choice);
-  if (who === "") {
-    if (names.length === 1) location.replace(`#depositor/${names[0]}`);
-    else if (view.isCurrent()) show(view.main, head, depositorList(names));
-    return;
-  }
-  knows(names, who);
+  const head = await depositorHead(view, "depositor", who || "Depositor", who);
+  if (!head) return;
   const [rows, works, sent] = await Promise.all([
     stockOf(who), workOf(who), read("outbox", who).then(sentTexts),
   ]);
@@ -116,15 +108,9 @@ async function depositorView(view, who) {
   });
   open.put(works);
   show(view.main, head, depositorTiles(rows, sent),
-    el("div", { class: "columns" }, card("On hand by month of expiry", expiryPlot(rows)),
+    el("div.columns", card("On hand by month of expiry", expiryPlot(rows)),
       card("Open work", open.box)),
     stockCard(rows), outboxCard(who, sent));
-}
-
-/** @param {string[]} names */
-function depositorList(names) {
-  return el("ul", { class: "names card" },
-    names.map((name) => el("li", {}, linkTo(["depositor", name], name))));
 }
 
 /**
@@ -134,7 +120,7 @@ function depositorList(names) {
 function depositorTiles(rows, sent) {
   const expired = rows.filter(({ expiry, onHand }) => onHand && freshness(expiry) === "expired");
   const refused = sent.filter(({ state }) => state === "refused").length;
-  return el("div", { class: "tiles card" },
+  return el("div.tiles.card",
     tile(total(rows, (row) => row.onHand), "pieces on hand"),
     tile(total(rows, (row) => row.reserved), "reserved"),
     tile(total(rows, (row) => row.expected), "expected"),

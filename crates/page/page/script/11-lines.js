@@ -1,12 +1,15 @@
 // Lines with a field each, found by a scanner; what is typed is kept until the act is done.
 
 /**
- * @typedef {{item: string, lot: string, have: number, about: any, isAdded?: boolean}} Field
+ * @typedef {{item: string, lot: string, have: number, expiry?: string, reserved?: number,
+ *   isAdded?: boolean}} Field
  */
+/** @typedef {{field: Field, isTyped: boolean, quantity: number}} Typed */
 /** @typedef {{values: Record<string, string>, added: {item: string, lot: string}[]}} Draft */
 
 const IDENTIFIER = /^[A-Z0-9.-]+$/;
 const FASTEST_HAND = 60;
+const MOST_FIELDS = 60;
 
 /** @param {{kind: string, who: string, subject: string}} plan */
 function draftName({ kind, who, subject }) {
@@ -36,46 +39,71 @@ function pairName({ item, lot }) {
 }
 
 /**
- * The lines of an act, each with a field.
- * @param {{plan: {kind: string, who: string, subject: string}, fields: Field[], have: string,
- *   digits: number, scan: string, add?: (item: string, lot: string) => Field,
- *   changed: () => void}} how
+ * What makes the line of a field once it is shown, since a stock may have thousands.
+ * @param {Element} list
+ * @param {(field: Field) => {input: any, item: any}} made
  */
-function lineFields(how) {
-  const draft = draftOf(how.plan);
-  const list = el("ul", { class: "lines" });
-  const said = el("div", {});
-  /** @type {Map<string, {field: Field, input: any, item: any}>} */
+function lineMaker(list, made) {
+  /** @type {Map<string, {input: any, item: any}>} */
   const rows = new Map();
-  const changed = () => {
-    keep(draftName(how.plan), JSON.stringify(draft));
-    how.changed();
-  };
-  const put = (field) => {
-    const row = fieldRow(field, how, draft, changed, (text) => scanned(text));
-    rows.set(pairName(field), row);
-    list.append(row.item);
+  const shown = (row) => {
+    if (!row.item.isConnected) list.append(row.item);
     return row;
   };
-  const addPair = (item, lot) => {
-    if (!how.add || rows.has(pairName({ item, lot }))) return;
+  return {
+    rowOf: (field) => {
+      const row = rows.get(pairName(field)) ?? made(field);
+      rows.set(pairName(field), row);
+      return shown(row);
+    },
+    bad: () => {
+      const row = [...rows.values()].find(({ input }) => input.hasAttribute("aria-invalid"));
+      return row && shown(row);
+    },
+  };
+}
+
+/**
+ * The lines of an act, each with a field, and the bar at the foot; `show` shows the lines whose
+ * names pass.
+ * @param {{plan: {kind: string, who: string, subject: string}, fields: Field[], have: string,
+ *   digits: number, add?: (item: string, lot: string) => Field, told: (typed: number) => string,
+ *   look: (lines: Typed[]) => void}} how
+ */
+function lineFields(how) {
+  const { plan, add } = how;
+  const draft = draftOf(plan);
+  const [list, said, told] = [el("ul.lines"), el("div"), el("p", { role: "status" })];
+  const fields = new Map(how.fields.map((field) => [pairName(field), field]));
+  if (add) for (const { item, lot } of draft.added) fields.set(`${item},${lot}`, add(item, lot));
+  const text = (field) => draft.values[pairName(field)] ?? "";
+  const changed = () => {
+    keep(draftName(plan), JSON.stringify(draft));
+    told.textContent = how.told([...fields.values()].filter((it) => text(it) !== "").length);
+  };
+  const { rowOf, bad } = lineMaker(list, (it) => fieldRow(it, how, draft, changed, scan));
+  const adding = addForm((item, lot) => {
+    if (!add || fields.has(`${item},${lot}`)) return;
     show(said);
     draft.added.push({ item, lot });
-    const row = put(how.add(item, lot));
+    fields.set(`${item},${lot}`, add(item, lot));
     changed();
-    row.input.focus();
-  };
-  const scanned = scanner(rows, said, (item, lot) => how.add && adding.ask(item, lot));
-  const scan = scanField(how.scan, (text) => scanned(text), () => show(said));
-  const adding = addForm(addPair);
-  how.fields.forEach(put);
-  const { add } = how;
-  if (add) draft.added.forEach(({ item, lot }) => put(add(item, lot)));
+    rowOf(fields.get(`${item},${lot}`)).input.focus();
+  });
+  const scan = scanner(fields, rowOf, said, (item, lot) => add && adding.ask(item, lot));
+  const { field, box } = scanField("Scan or type a lot or an item", scan);
+  const look = () => (bad() ? bad()?.input.focus() : how.look([...fields.values()].map((it) => (
+    { field: it, isTyped: text(it) !== "", quantity: Number(text(it)) }))));
+  changed();
   return {
-    box: el("div", {}, el("div", { class: "tools" }, scan.box,
-      hint(`\u201c=\u201d takes over what is ${how.have}.`)), said, list,
-      how.add ? adding.box : null),
-    rows, scan: scan.field, draft, changed,
+    box: el("div.card", el("div.tools", box, hint(`\u201c=\u201d takes over what is ${how.have}.`)),
+      said, list, add ? adding.box : null),
+    bar: el("div.bar", told, button(`Review the ${plan.kind}`, look, { class: "main" })),
+    scan: field,
+    show: (passes) => {
+      list.replaceChildren();
+      for (const [name, it] of fields) if (passes(name, text(it))) rowOf(it);
+    },
   };
 }
 
@@ -106,12 +134,14 @@ function fieldRow(field, how, draft, changed, scanned) {
     input.dispatchEvent(new Event("input"));
   }, { class: "same", "aria-label": `${how.have} of ${field.item}, lot ${field.lot}` });
   const item = el("li", { class: field.isAdded ? "added" : "" },
-    el("div", { class: "goods" }, el("b", {}, field.item), el("span", {}, field.lot)),
-    el("div", { class: "about" }, field.about),
-    el("div", { class: "have" }, el("small", {}, how.have), ` ${counted(field.have)}`),
+    el("div.goods", el("b", field.item), el("span", field.lot)),
+    el("div.about", field.isAdded && chip("warn", "not announced"),
+      field.reserved ? [chip("", `${counted(field.reserved)} reserved`), " "] : null,
+      field.expiry && [el("small", "expires "), expiryShown(field.expiry)]),
+    el("div.have", el("small", how.have), ` ${counted(field.have)}`),
     same, input);
   mark();
-  return { field, input, item };
+  return { input, item };
 }
 
 /**
@@ -155,31 +185,31 @@ function quantityField({ item, lot }, digits, first, accept, scanned) {
 /**
  * What finds lines by what was scanned: a lot, an item, or both with a blank or a comma between.
  * After an item of several lots the lot is awaited.
- * @param {Map<string, {field: Field, input: any, item: any}>} rows
+ * @param {Map<string, Field>} fields
+ * @param {(field: Field) => {input: any, item: any}} rowOf
  * @param {Element} said
  * @param {(item: string, lot: string) => any} unknown
  */
-function scanner(rows, said, unknown) {
+function scanner(fields, rowOf, said, unknown) {
   let awaited = "";
   return (text) => {
     const parts = text.split(/[ ,;]+/);
-    const all = [...rows.values()];
-    const exact = rows.get(parts.slice(0, 2).join(","));
-    const ofItem = all.filter(({ field }) => field.item === text);
-    const ofLot = all.filter(({ field }) => field.lot === text &&
-      (awaited === "" || field.item === awaited));
-    const found = exact ? [exact] : ofLot.length ? ofLot : ofItem;
+    const all = [...fields.values()];
+    const exact = fields.get(parts.slice(0, 2).join(","));
+    const ofItem = all.filter(({ item }) => item === text);
+    const ofLot = all.filter(({ item, lot }) => lot === text && (!awaited || item === awaited));
     clearScan(text);
-    for (const { item } of all) item.classList.toggle("found", false);
+    for (const it of document.querySelectorAll(".found")) it.classList.remove("found");
     show(said);
-    for (const { item } of found) item.hidden = false;
+    const fit = exact ? [exact] : ofLot.length ? ofLot : ofItem;
+    const found = fit.slice(0, MOST_FIELDS).map(rowOf);
     if (found.length === 1) {
       awaited = "";
       found[0].item.scrollIntoView({ block: "center" });
       found[0].input.focus();
     } else if (found.length > 1) {
       awaited = ofItem.length ? text : "";
-      for (const { item } of found) item.classList.toggle("found", true);
+      for (const { item } of found) item.classList.add("found");
       found[0].item.scrollIntoView({ block: "nearest" });
       const next = ofItem.length ? "lot" : "item";
       show(said, note("warn", `${text}: ${found.length} lines. Scan the ${next}.`));
@@ -211,10 +241,7 @@ function clearScan(text) {
  * @param {(item: string, lot: string) => void} added
  */
 function addForm(added) {
-  const field = (most) => el("input", {
-    type: "text", maxlength: most, autocomplete: "off", autocapitalize: "characters",
-    spellcheck: "false",
-  });
+  const field = (most) => el("input", { ...CAPITALS, type: "text", maxlength: most });
   const [item, lot] = [field(20), field(12)];
   const said = hint();
   const add = (event) => {
@@ -228,10 +255,10 @@ function addForm(added) {
     box.open = false;
     added(one, other);
   };
-  const form = el("form", { class: "tools", on: { submit: add } }, labelled("Item", item),
+  const form = el("form.tools", { on: { submit: add } }, labelled("Item", item),
     labelled("Lot", lot), el("button", { type: "submit" }, "Add this line"));
-  const box = el("details", { class: "adding" },
-    el("summary", {}, "Add a line that wasn't announced"), form, said);
+  const box = el("details.adding",
+    el("summary", "Add a line that wasn't announced"), form, said);
   const ask = (one, other) => {
     box.open = true;
     item.value = one;
@@ -242,10 +269,60 @@ function addForm(added) {
 }
 
 /**
- * How far the fields are filled.
- * @param {Map<string, {field: Field, input: any, item: any}>} rows
+ * What differs, line by line, and how.
+ * @param {Typed[]} lines
+ * @param {(field: Field, quantity: number) => string} kindOf
+ * @returns {Difference[]}
  */
-function filledWords(rows) {
-  const filled = [...rows.values()].filter(({ input }) => input.value.trim() !== "").length;
-  return `${filled} of ${counted(rows.size)} filled in`;
+function differencesOf(lines, kindOf) {
+  const differing = lines.filter(({ field, quantity }) =>
+    field.isAdded || quantity !== field.have);
+  return differing.map(({ field, quantity }) => ({
+    kind: kindOf(field, quantity), item: field.item, lot: field.lot,
+    from: field.isAdded ? "-" : counted(field.have), to: counted(quantity),
+  }));
+}
+
+/**
+ * What is given to the server.
+ * @param {Typed[]} lines
+ * @returns {Line[]}
+ */
+function givenBy(lines) {
+  return lines.map(({ field: { item, lot }, quantity }) => ({ item, lot, quantity }));
+}
+
+/**
+ * A sheet's lines as fields, with the dates of their lots, where these can be had.
+ * @param {string} who
+ * @param {Line[]} lines
+ * @returns {Promise<Field[]>}
+ */
+async function datedFields(who, lines) {
+  const rows = await stockOf(who).catch(() => /** @type {Row[]} */ ([]));
+  const dates = new Map(rows.map((row) => [pairName(row), row.expiry]));
+  return lines.map(({ item, lot, quantity }) => (
+    { item, lot, have: quantity, expiry: dates.get(`${item},${lot}`) }));
+}
+
+/**
+ * The head of an act on one number, with the way back to the list.
+ * @param {string} view
+ * @param {{who: string, subject: string}} plan
+ * @param {Field[]} fields
+ * @param {string} have
+ * @param {...any} more
+ */
+function workHead(view, { who, subject }, fields, have, ...more) {
+  const pieces = total(fields, (field) => field.have);
+  return el("div.head",
+    el("div", linkTo([view], "\u2190 All", "back"), el("h1", subject),
+      hint(linkTo(["depositor", who], who), ` \u00b7 ${several(fields.length, "line")}, ` +
+        `${several(pieces, "piece")} ${have}`)),
+    el("div.row", more));
+}
+
+/** How far the fields of a sheet are filled. @param {Field[]} fields */
+function filledOf(fields) {
+  return (typed) => `${typed} of ${several(fields.length, "line")} filled in`;
 }

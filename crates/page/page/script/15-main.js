@@ -38,8 +38,8 @@ async function showView() {
     await VIEWS[name]({ main, isCurrent: () => mine === shownView }, who, number);
   } catch (error) {
     if (mine !== shownView) return;
-    show(main, el("h1", {}, number || who || name), errorNote(error),
-      el("p", { class: "row" }, button("Try again", () => void showView()),
+    show(main, el("h1", number || who || name), errorNote(error),
+      el("p.row", button("Try again", () => void showView()),
         linkTo([name], "Back to the list", "button")));
   }
   if (mine === shownView) main.setAttribute("aria-busy", "false");
