@@ -2,7 +2,7 @@
 """Hands the server requests that were changed by machine, and compares each response with a second reading
 of HTTP's rules.
 
-Usage: bench/requests.py [--requests N] [--seed N] [--clerks] [PROGRAM]
+Usage: bench/requests.py [--requests N] [--seed N] [--clerks | --apart] [PROGRAM]
        (default: 100000, crates/whx12/out/whx12, which `rt run` in that folder leaves)
 
 PROGRAM serves a book of ZZ-WHSE1 in which ZZ-ACME is enrolled. Each request is one of its routes, or
@@ -13,7 +13,8 @@ below, written from the grammar of RFC 9112 and the rules of docs/PROFILE.md wit
 of an interchange the body is what bench/model.py answers, and every response has the fields and the
 length that it must have. In the end `verify` says ok, and stock and outbox are those of model.py.
 
-With --clerks the server takes clerks' requests too, and half of the requests are such.
+With --clerks the server takes clerks' requests too, and half of the requests are such. With --apart it
+does so at an address of the clerks' own alone, and each request goes to one of the two addresses.
 
 Where a head is neither plainly good nor plainly bad, of which RFC 9112 lets a server choose (a lone LF
 for CR LF, blanks before a field, bytes above 7E), 400 and the other reading are both taken. The status
@@ -38,12 +39,14 @@ RUN = {
     "shows": "HTTP requests changed by machine, against a second reading of HTTP's rules and "
              "model.py",
     "needs": ["program"],
-    "words": ["--requests 10000", "--requests 20000 --clerks"],
+    "words": ["--requests 10000", "--requests 20000 --clerks", "--requests 10000 --apart"],
     "minutes": 6,
 }
 AT = "2025-03-04T09:15"
-# whether clerks are served
-CLERKS = "--clerks" in sys.argv
+# whether clerks have an address of their own; whether clerks are served at all; and where the request that is looked at went
+APART = "--apart" in sys.argv
+CLERKS = APART or "--clerks" in sys.argv
+ASKED = {"clerks": CLERKS}
 TOKEN = rb"[!#$%&'*+\-.^_`|~0-9A-Za-z]+"
 PHRASES = {200: b"OK", 204: b"No Content", 400: b"Bad Request", 403: b"Forbidden", 404: b"Not Found", 405: b"Method Not Allowed", 409: b"Conflict", 411: b"Length Required",
            413: b"Payload Too Large", 421: b"Misdirected Request", 422: b"Unprocessable Entity", 501: b"Not Implemented"}
@@ -90,7 +93,7 @@ def routed(path):
         found = re.fullmatch(pattern, path)
         if found:
             return name, found.groups()
-    return called(path.split(b"/")) if CLERKS else None
+    return called(path.split(b"/")) if ASKED["clerks"] else None
 
 
 def called(parts):
@@ -370,13 +373,14 @@ def once(port, raw):
 
 
 def served(program, folder, count):
-    """A server of so many connections, which listens."""
+    """A server of so many connections, which listens, and its ports: of partners, and of clerks."""
     port = free_port()
-    server = subprocess.Popen([program, "serve", "--book", "book", "--listen", f"127.0.0.1:{port}", "--count", str(count), "--at", AT,
-                               *(["--clerks"] if CLERKS else [])], cwd=folder,
+    own = free_port() if APART else port
+    clerks = ["--clerks-at", f"127.0.0.1:{own}"] if APART else ["--clerks"] if CLERKS else []
+    server = subprocess.Popen([program, "serve", "--book", "book", "--listen", f"127.0.0.1:{port}", "--count", str(count), "--at", AT, *clerks], cwd=folder,
                               stdout=subprocess.DEVNULL, stderr=subprocess.PIPE)
     knock(port)
-    return server, port
+    return server, (port, own)
 
 
 def play(program, folder, seed, count):
@@ -386,11 +390,12 @@ def play(program, folder, seed, count):
     run("enrol", "ZZ-ACME", "--at", AT)
     day, seen = Requests(seed, folder), {}
     day.book.enrol(b"ZZ-ACME")
-    server, port = served(program, folder, count + 1)
+    server, ports = served(program, folder, count + 1)
     for number in range(count):
         raw = day.request()
+        ASKED["clerks"] = day.r.random() < 0.5 if APART else CLERKS
         may, is_sure = wanted(day.book, raw)
-        got = once(port, raw)
+        got = once(ports[ASKED["clerks"]], raw)
         if got not in may and not is_sure:
             # RFC 9112 lets a server take such a head: then it is the one that was meant
             may, is_sure = wanted(day.book, plainly(raw))

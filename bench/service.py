@@ -305,8 +305,8 @@ def sites(house):
     house.put("user root;\npid " + house.at("pid") + ";\nerror_log " + house.at("error.log") + ";\nevents {}\nhttp {\naccess_log off;\n"
               + "".join(f"{kind}_temp_path {house.at(kind)};\n" for kind in ("client_body", "proxy", "fastcgi", "uwsgi", "scgi")) + site + "}\n", "nginx.conf")
     same("nginx -t", house.run(["nginx", "-t", "-q", "-c", house.at("nginx.conf"), "-e", house.at("error.log")])[0], 0)
-    server = subprocess.Popen(["whx12", "serve", "--book", house.book, "--listen", f"unix:{house.at('sock')}", "--from", "X-Depositor"], env=house.environment,
-                              stdout=subprocess.DEVNULL)
+    server = subprocess.Popen(["whx12", "serve", "--book", house.book, "--listen", f"unix:{house.at('sock')}", "--from", "X-Depositor",
+                               "--clerks-at", f"unix:{house.at('clerks')}"], env=house.environment, stdout=subprocess.DEVNULL)
     nginx = subprocess.Popen(["nginx", "-c", house.at("nginx.conf"), "-e", house.at("error.log"), "-g", "daemon off;"])
     try:
         wait_for(house.at("sock"))
@@ -326,6 +326,8 @@ def sites(house):
         same("the same again", house.run([*login, "--data-binary", "@" + house.at("second.x12"), f"{url}/x12"])[1], "200")
         house.put(text_of(3), "third.x12")
         strangers(house, curl, url)
+        for place, status in (("clerks", 0), ("sock", 3)):
+            same(f"a clerk at {place}", house.run(["whx12", "open", "ZZ-ACME", "--server", f"unix:{house.at(place)}"])[0], status)
     finally:
         nginx.send_signal(signal.SIGQUIT)
         nginx.wait(10)

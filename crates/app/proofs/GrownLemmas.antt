@@ -12,6 +12,7 @@ use Rattle.store.specs.Standing.{Standing, IsUsable, IsUnchanged, GoesOn, Leaves
 use Rattle.store.proofs.Changes.{clean_before, goes_trans, usable_stays}
 use Rattle.folders.specs.Folders.{IsFolderStopped}
 use Rattle.folders.specs.Folders as folders
+use Rattle.intake.specs.Admitting.{access_by}
 use Rattle.intake.specs.Connections.{IsConnection, IsNotAccepted, IsServed, IsServedOn}
 use Rattle.intake.specs.Serving.{IsAnswered, IsAsDefined, IsFaulted, IsResponseWritten, IsUnread, IsUnwritten}
 use Rattle.intake.specs.declared.audience.Access.{Access}
@@ -290,7 +291,7 @@ module _ {K : Type 0} (standing : K → Standing) (access : Access) where
       let goes = one.goes in
       let mid = clean_before (standing h.0) (standing q) (conns_go h.0 cs q h.2) clean in
       let was = grown.serves one.serves in
-      let now = connected access (standing p) (standing h.0) mid was.register was.usable c one.became in
+      let now = connected (access_by access c.door) (standing p) (standing h.0) mid was.register was.usable c one.became in
       conns_grow h.0 cs q h.2 clean V (goes.warehouse ∙ named) L
       (grown_more (standing h.0) V L was.register was.grown (subst (λ (U : Who). IsGrownOn (standing h.0) U was.register) named now))
 

@@ -113,7 +113,7 @@ task_has f (task.HandOn who dir) s = hand_on_has f who.now dir.now s
 task_has f (task.Batch file) s = named f.1 s.0 ((λ _. (file.now, s.1)), tt)
 task_has f (task.Serve service at) s =
     let listen = s.1.0.0 in
-    named f.1 s.0 ((λ _. (listen.0, listen.1)), (may, (may, (may, (may, (may, (may, (may, (may, tt)))))))))
+    named f.1 s.0 ((λ _. (listen.0, listen.1)), (may, (may, (may, (may, (may, (may, (may, (may, (may, tt))))))))))
 task_has f (task.Verify seal) s = named f.1 s.0 (may, (may, tt))
 task_has f (task.Seal first) s = named f.1 s.0 (may, (may, tt))
 

@@ -5,3 +5,5 @@ mod RowsLines
 mod RowsNumbers
 mod RosterLaws
 mod AskedLaws
+mod HostLaws
+mod AloneLaws

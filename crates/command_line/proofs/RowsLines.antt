@@ -1,9 +1,10 @@
 -- Lines that the parser takes, and lines that it doesn't.
-use Rattle.std.proofs.Common.{◌≡◌, refl, codes, List, [], ◌∷◌, true, not}
+use Rattle.std.proofs.Common.{◌≡◌, refl, codes, List, [], ◌∷◌, Some, option_map, true, not}
 use Rattle.std.specs.List.{list_all}
 use Rattle.clap.specs.Takes.{takes}
 use Rattle.clap.specs.Walk.{Text}
 use Rattle.clap.proofs.OnLiterals.{clap_on_literals}
+use Rattle.command_line.specs.Asked.{found_at, values_of}
 use Rattle.command_line.specs.Lines.{app_at}
 use Rattle.command_line.specs.declared.words.Place.TheVariants.{Program, Script}
 
@@ -28,6 +29,11 @@ not_in_a_script =
     ∷ (codes "stock" ∷ codes "ZZ-ACME" ∷ codes "--cvs" ∷ [])
     ∷ (codes "ship" ∷ codes "ZZ-ACME" ∷ []) ∷ []
 
+-- a server that is asked by two names
+abbrev asked_by_two : List Text
+asked_by_two = codes "serve" ∷ codes "--listen" ∷ codes "127.0.0.1:8080" ∷ codes "--host"
+    ∷ codes "dock.example" ∷ codes "--book" ∷ codes "harbor.book" ∷ codes "--host=gate,yard" ∷ []
+
 abbrev of_the_program : List (List Text)
 of_the_program =
     (codes "script" ∷ codes "day.txt" ∷ [])
@@ -40,6 +46,9 @@ of_the_program =
     ∷ codes "--book" ∷ codes "harbor.book" ∷ codes "--clerks" ∷ codes "--host" ∷ codes "dock.example" ∷ [])
     ∷ (codes "serve" ∷ codes "--listen" ∷ codes "127.0.0.1:8080" ∷ codes "--book"
     ∷ codes "harbor.book" ∷ codes "--from" ∷ codes "X-Depositor" ∷ [])
+    ∷ asked_by_two
+    ∷ (codes "serve" ∷ codes "--listen" ∷ codes "127.0.0.1:8080" ∷ codes "--clerks-at"
+    ∷ codes "unix:/run/clerks.sock" ∷ codes "--book" ∷ codes "harbor.book" ∷ [])
     ∷ (codes "batch" ∷ codes "day.txt" ∷ codes "--book" ∷ codes "harbor.book" ∷ [])
     ∷ (codes "verify" ∷ codes "--book" ∷ codes "harbor.book" ∷ [])
     ∷ (codes "verify" ∷ codes "--wary" ∷ codes "--book" ∷ codes "harbor.book" ∷ [])
@@ -74,3 +83,8 @@ the_programs_are_not_taken :
     list_all (λ words. not (takes (app_at Program) words)) not_of_the_program ≡ true
 unfolding clap_on_literals
 the_programs_are_not_taken = refl
+
+both_names_are_found : option_map (λ f. values_of f.1 (codes "host")) (found_at Program asked_by_two)
+    ≡ Some (codes "dock.example" ∷ codes "gate,yard" ∷ [])
+unfolding clap_on_literals
+both_names_are_found = refl

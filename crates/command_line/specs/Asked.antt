@@ -1,12 +1,12 @@
 -- What a line of words asks for, and what one that can be read is refused for.
-use Rattle.std.specs.Prelude.{◌≡◌, ◌⊎◌, ℕ, Bool, true, false, ◌||◌, List, [], ◌∷◌, ◌++◌, ⊤, Option, Some, None, MatchOption, IsTrue, Result, IfOk, IfErr, is_some, option_map, codes, bytes_eq}
+use Rattle.std.specs.Prelude.{◌≡◌, ◌≤◌, ◌-◌, ◌⊎◌, ℕ, Bool, true, false, ◌||◌, List, [], ◌∷◌, ◌++◌, ⊤, Option, Some, None, MatchOption, IsTrue, Result, IfOk, IfErr, is_some, option_map, unwrap_or, length, map, replicate, codes, bytes_eq}
 use Rattle.std.specs.Borrow.{Bor}
 use Rattle.std.specs.Net.Addr.{MatchIp, IsLoopbackV4, IsLoopbackV6}
 use Rattle.std.specs.Net.Grammar.{IsSocketText}
 use Rattle.std.specs.Net.Socket.{socket_ip}
 use Rattle.std.specs.Option.{option_map_or}
 use Rattle.std.specs.declared.net.socket_addr.SocketAddr.{SocketAddr}
-use Rattle.clap.specs.Walk.{Row, Rule, Text, first_of}
+use Rattle.clap.specs.Walk.{Row, Rule, Text, all_of, first_of}
 use Rattle.clap.specs.Simple.{subcommand_of}
 use Rattle.clap.specs.Takes.{takes}
 use Rattle.definitions.specs.Moments.{Moment}
@@ -31,6 +31,10 @@ use Rattle.command_line.specs.declared.words.LineFault.TheVariants.{OutOfMemory}
 use Rattle.definitions.specs.declared.sheet_kind.SheetKind.{SheetKind}
 use Rattle.definitions.specs.declared.sheet_kind.SheetKind.TheVariants.{Count, Pick, Recount}
 use Rattle.command_line.specs.Lines.{app_at, rules_of}
+
+-- how often a line may name hosts, at most
+abbrev pub most_hosts : ℕ
+most_hosts = 8
 
 -- the subcommand that a line names, and what was found for its values
 abbrev pub Found : Type 0
@@ -135,15 +139,39 @@ IsNear (Unix path) = ⊤
 abbrev pub MayListen : List Row → Endpoint → Type 0
 MayListen rows endpoint = IsNear endpoint ⊎ IsTrue (has_flag rows (codes "anyone"))
 
-abbrev pub IsGuarded : List Row → Endpoint → Type 0
-IsGuarded rows endpoint = SaysEndpoint rows (codes "listen") endpoint × MayListen rows endpoint
+-- where the line says that a server listens by this option, and may
+abbrev pub IsGuarded : List Row → Text → Endpoint → Type 0
+IsGuarded rows id endpoint = SaysEndpoint rows id endpoint × MayListen rows endpoint
+
+-- the same, or the line doesn't have the option
+abbrev pub SaysGuarded : List Row → Text → Option Endpoint → Type 0
+SaysGuarded rows id (Some endpoint) = IsGuarded rows id endpoint
+SaysGuarded rows id None = Lacks rows id
+
+-- the values that the line says as this option, in their order
+abbrev pub values_of : List Row → Text → List Text
+values_of rows id = unwrap_or (all_of id rows) []
+
+-- the line says names of hosts no more often than it may
+abbrev pub HasFewHosts : List Row → Type 0
+HasFewHosts rows = length (values_of rows (codes "host")) ≤ most_hosts
+
+-- eight texts: these, and the empty one for the rest
+abbrev pub filled : List Text → List Text
+filled names = names ++ replicate (most_hosts - length names) []
+
+-- the names of hosts that the line says
+abbrev pub SaysHosts : List Row → List (Bor Text) → Type 0
+SaysHosts rows hosts = HasFewHosts rows
+    × (map (λ h. h.now) hosts ≡ filled (values_of rows (codes "host")))
 
 abbrev pub SaysService : List Row → Service → Type 0
-SaysService rows s = IsGuarded rows s.endpoint
+SaysService rows s = IsGuarded rows (codes "listen") s.endpoint
+    × SaysGuarded rows (codes "clerks-at") s.clerks_at
     × SaysFew rows (codes "count") s.count × SaysFew rows (codes "patience") s.patience
     × SaysFew rows (codes "peers") s.peers
     × (s.clerks ≡ has_flag rows (codes "clerks"))
-    × SaysText rows (codes "host") s.hosts × SaysText rows (codes "from") s.from
+    × SaysHosts rows s.hosts × SaysText rows (codes "from") s.from
 
 -- the documents of a depositor are to be written to the files of a folder
 abbrev pub SaysHandOn : Found → Text → Text → Type 0

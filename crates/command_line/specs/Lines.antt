@@ -3,7 +3,7 @@ use Rattle.std.specs.Prelude.{true, false, List, [], ◌∷◌, ◌++◌, Some, 
 use Rattle.std.specs.Option.{option_map_or}
 use Rattle.clap.specs.Walk.{Rule, Text}
 use Rattle.clap.specs.Simple.{App, Shape, new_rule, new_shape, with_subcommand}
-use Rattle.clap.specs.declared.builder.action.ArgAction.TheVariants.{Set, SetTrue}
+use Rattle.clap.specs.declared.builder.action.ArgAction.TheVariants.{Append, Set, SetTrue}
 use Rattle.command_line.specs.declared.words.Place.{Place}
 use Rattle.command_line.specs.declared.words.Place.TheVariants as place
 
@@ -18,6 +18,10 @@ option_rule id = record (new_rule id) { long = Some id; action = Some Set; value
 -- an option that must be there
 abbrev pub wanted_rule : Text → Rule
 wanted_rule id = record (option_rule id) { required = true }
+
+-- an option with a value that may be there several times
+abbrev pub repeated_rule : Text → Rule
+repeated_rule id = record (option_rule id) { action = Some Append }
 
 -- an option without
 abbrev pub flag_rule : Text → Rule
@@ -105,9 +109,10 @@ depositors_shape = subcommand (codes "depositors") (at_rule ∷ [])
 
 abbrev pub serve_shape : Shape
 serve_shape = subcommand (codes "serve") (wanted_rule (codes "listen") ∷ option_rule (codes "count")
-    ∷ option_rule (codes "patience") ∷ option_rule (codes "peers") ∷ option_rule (codes "host")
+    ∷ option_rule (codes "patience") ∷ option_rule (codes "peers") ∷ repeated_rule (codes "host")
     ∷ option_rule (codes "from")
-    ∷ flag_rule (codes "anyone") ∷ flag_rule (codes "clerks") ∷ at_rule ∷ [])
+    ∷ flag_rule (codes "anyone") ∷ flag_rule (codes "clerks")
+    ∷ option_rule (codes "clerks-at") ∷ at_rule ∷ [])
 
 abbrev pub verify_shape : Shape
 verify_shape = subcommand (codes "verify") (option_rule (codes "seal") ∷ at_rule ∷ [])
@@ -175,6 +180,10 @@ with_all a (s ∷ ss) = with_all (with_subcommand a s) ss
 
 abbrev pub script_subcommands : List Shape
 script_subcommands = line_subcommands place.Script
+
+-- a line of a script that has one subcommand
+abbrev pub alone : Shape → App
+alone s = record { top = top_shape; subs = s ∷ [] }
 
 -- the program has those of a script, over the book in a file or a server's, and four of its own
 abbrev pub program_subcommands : List Shape

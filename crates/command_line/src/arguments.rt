@@ -39,6 +39,13 @@ pub(crate) fn wanted<'a>(alloc: Global, id: &'a str, name: &'a str, help: &'a st
     option(alloc, id, name, help).required(true)
 }
 
+/// An option with a value that may be given several times.
+pub(crate) fn repeated<'a>(alloc: Global, id: &'a str, name: &'a str, help: &'a str) -> Arg<'a>
+    ensures { IsRule (meant.repeated_rule id.now) result }
+{
+    option(alloc, id, name, help).action(ArgAction::Append)
+}
+
 /// An option without a value.
 pub(crate) fn flag<'a>(alloc: Global, id: &'a str, help: &'a str) -> Arg<'a>
     ensures { IsRule (meant.flag_rule id.now) result }

@@ -3,6 +3,7 @@
 //! list of depositors read, which a line may name.
 #![tactic(auto)]
 
+mod alone;
 mod arguments;
 mod moments;
 mod numbers;
@@ -16,5 +17,6 @@ mod words;
 pub use reading::line;
 pub use rosters::depositors;
 pub use words::{
-    BookAct, ClerkWords, Endpoint, LineFault, Opening, Place, Service, Show, Task, Words,
+    BookAct, ClerkWords, Endpoint, LineFault, MOST_HOSTS, Opening, Place, Service, Show, Task,
+    Words,
 };

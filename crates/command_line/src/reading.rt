@@ -5,7 +5,7 @@ ghost use Rattle.clap.specs.Values.{kind_of};
 ghost use Rattle.clap.specs.Walk.{rows_of};
 ghost use Rattle.command_line.specs.Asked as meant;
 
-use crate::subcommands::parser;
+use crate::alone::parser_of;
 use crate::values::{
     book_of, given, has_flag, leaves_to_server, moment, number, opening, server, service_of,
     text_of, usage, without,
@@ -390,7 +390,7 @@ pub fn line<'a>(alloc: Global, place: Place, words: &'a [&'a str]) -> Result<Wor
     ensures err { IfErr result (meant.LacksMemory
         (meant.CanBeRead place (map (λ w. w.now) words.now))) }
 {
-    let matches = match parser(alloc, place)?.try_get_matches_from(words) {
+    let matches = match parser_of(alloc, place, words)?.try_get_matches_from(words) {
         Ok(matches) => matches,
         Err(error) => return Err(refused(alloc, &error)),
     };

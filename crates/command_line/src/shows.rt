@@ -11,7 +11,7 @@ use crate::words::Place;
 use clap::{Arg, Command};
 use std::alloc::{AllocError, Global};
 
-fn stock<'a>(alloc: Global) -> Result<Command<'a>, AllocError>
+pub(crate) fn stock<'a>(alloc: Global) -> Result<Command<'a>, AllocError>
     ensures { IfOk result (IsCommand meant.stock_shape) }
 {
     let command = of_depositor(
@@ -28,7 +28,7 @@ fn stock<'a>(alloc: Global) -> Result<Command<'a>, AllocError>
     with_at(alloc, command)
 }
 
-fn open<'a>(alloc: Global) -> Result<Command<'a>, AllocError>
+pub(crate) fn open<'a>(alloc: Global) -> Result<Command<'a>, AllocError>
     ensures { IfOk result (IsCommand meant.open_shape) }
 {
     let command = of_depositor(
@@ -48,7 +48,7 @@ fn csv<'a>(alloc: Global) -> Arg<'a>
     flag(alloc, "csv", "Prints it as CSV, to fill in and hand back")
 }
 
-fn advices<'a>(alloc: Global) -> Result<Command<'a>, AllocError>
+pub(crate) fn advices<'a>(alloc: Global) -> Result<Command<'a>, AllocError>
     ensures { IfOk result (IsCommand meant.advices_shape) }
 {
     let command = of_depositor(
@@ -63,7 +63,7 @@ fn advices<'a>(alloc: Global) -> Result<Command<'a>, AllocError>
     with_at(alloc, command)
 }
 
-fn orders<'a>(alloc: Global) -> Result<Command<'a>, AllocError>
+pub(crate) fn orders<'a>(alloc: Global) -> Result<Command<'a>, AllocError>
     ensures { IfOk result (IsCommand meant.orders_shape) }
 {
     let command = of_depositor(
@@ -78,7 +78,7 @@ fn orders<'a>(alloc: Global) -> Result<Command<'a>, AllocError>
     with_at(alloc, command)
 }
 
-fn outbox<'a>(alloc: Global) -> Result<Command<'a>, AllocError>
+pub(crate) fn outbox<'a>(alloc: Global) -> Result<Command<'a>, AllocError>
     ensures { IfOk result (IsCommand meant.outbox_shape) }
 {
     let command = of_depositor(
@@ -109,7 +109,7 @@ fn outbox<'a>(alloc: Global) -> Result<Command<'a>, AllocError>
     with_at(alloc, command)
 }
 
-fn depositors<'a>(alloc: Global) -> Result<Command<'a>, AllocError>
+pub(crate) fn depositors<'a>(alloc: Global) -> Result<Command<'a>, AllocError>
     ensures { IfOk result (IsCommand meant.depositors_shape) }
 {
     subcommand(

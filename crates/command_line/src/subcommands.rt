@@ -7,7 +7,7 @@ ghost use Rattle.command_line.specs.Parsers.{IsCommand};
 
 use crate::arguments::{
     at, described, flag, join, join_at, join_either_at, of_clerk, of_depositor, option, order,
-    shipment, subcommand, value, wanted, with, with_at, with_sheet, with_try,
+    repeated, shipment, subcommand, value, wanted, with, with_at, with_sheet, with_try,
 };
 use crate::shows::with_shows;
 use crate::words::Place;
@@ -40,7 +40,7 @@ fn batch<'a>(alloc: Global) -> Result<Command<'a>, AllocError>
     )
 }
 
-fn init<'a>(alloc: Global) -> Result<Command<'a>, AllocError>
+pub(crate) fn init<'a>(alloc: Global) -> Result<Command<'a>, AllocError>
     ensures { IfOk result (IsCommand meant.init_shape) }
 {
     let command = subcommand(
@@ -59,7 +59,7 @@ fn init<'a>(alloc: Global) -> Result<Command<'a>, AllocError>
     with_at(alloc, command)
 }
 
-fn enrol<'a>(alloc: Global) -> Result<Command<'a>, AllocError>
+pub(crate) fn enrol<'a>(alloc: Global) -> Result<Command<'a>, AllocError>
     ensures { IfOk result (IsCommand meant.enrol_shape) }
 {
     let command = of_depositor(
@@ -72,7 +72,7 @@ fn enrol<'a>(alloc: Global) -> Result<Command<'a>, AllocError>
     with_try(alloc, command)
 }
 
-fn roster<'a>(alloc: Global) -> Result<Command<'a>, AllocError>
+pub(crate) fn roster<'a>(alloc: Global) -> Result<Command<'a>, AllocError>
     ensures { IfOk result (IsCommand meant.roster_shape) }
 {
     let command = subcommand(
@@ -86,7 +86,7 @@ fn roster<'a>(alloc: Global) -> Result<Command<'a>, AllocError>
     with_at(alloc, command)
 }
 
-fn send<'a>(alloc: Global) -> Result<Command<'a>, AllocError>
+pub(crate) fn send<'a>(alloc: Global) -> Result<Command<'a>, AllocError>
     ensures { IfOk result (IsCommand meant.send_shape) }
 {
     let command = subcommand(
@@ -100,7 +100,7 @@ fn send<'a>(alloc: Global) -> Result<Command<'a>, AllocError>
     with_try(alloc, command)
 }
 
-fn take<'a>(alloc: Global) -> Result<Command<'a>, AllocError>
+pub(crate) fn take<'a>(alloc: Global) -> Result<Command<'a>, AllocError>
     ensures { IfOk result (IsCommand meant.take_shape) }
 {
     let command = subcommand(
@@ -123,7 +123,7 @@ fn take<'a>(alloc: Global) -> Result<Command<'a>, AllocError>
     with_at(alloc, command)
 }
 
-fn count<'a>(alloc: Global) -> Result<Command<'a>, AllocError>
+pub(crate) fn count<'a>(alloc: Global) -> Result<Command<'a>, AllocError>
     ensures { IfOk result (IsCommand meant.count_shape) }
 {
     let command = of_clerk(
@@ -137,7 +137,7 @@ fn count<'a>(alloc: Global) -> Result<Command<'a>, AllocError>
     with_sheet(alloc, command)
 }
 
-fn pick<'a>(alloc: Global) -> Result<Command<'a>, AllocError>
+pub(crate) fn pick<'a>(alloc: Global) -> Result<Command<'a>, AllocError>
     ensures { IfOk result (IsCommand meant.pick_shape) }
 {
     let command = of_clerk(
@@ -151,7 +151,7 @@ fn pick<'a>(alloc: Global) -> Result<Command<'a>, AllocError>
     with_sheet(alloc, command)
 }
 
-fn recount<'a>(alloc: Global) -> Result<Command<'a>, AllocError>
+pub(crate) fn recount<'a>(alloc: Global) -> Result<Command<'a>, AllocError>
     ensures { IfOk result (IsCommand meant.recount_shape) }
 {
     let command = of_clerk(
@@ -173,7 +173,7 @@ fn serve_wanted<'a>(alloc: Global) -> Result<Command<'a>, AllocError>
         alloc,
         "serve",
         "Serves the book over HTTP: many connections at once, their requests one after the other",
-        "whx12 serve --listen ADDR [--count N] [--patience SECONDS] [--peers N] [--host NAMES] [--from FIELD] [--anyone] [--clerks] --book BOOK [--at MOMENT]",
+        "whx12 serve --listen ADDR [--count N] [--patience SECONDS] [--peers N] [--host NAME].. [--from FIELD] [--anyone] [--clerks] [--clerks-at ADDR] --book BOOK [--at MOMENT]",
         "Example: whx12 serve --book harbor.book --listen 127.0.0.1:8080\n\nA depositor posts its interchanges to /x12. GET /stock/ZZ-ACME shows stock, /outbox/ZZ-ACME what went out. Printed is the\nstatus of each response, or: fault 44 Device. While it serves, no other command can open the book; where it\nhas --clerks, those with --server ask it instead.",
         wanted(
             alloc,
@@ -217,11 +217,11 @@ fn serve<'a>(alloc: Global) -> Result<Command<'a>, AllocError>
     );
     let command = with(
         command,
-        option(
+        repeated(
             alloc,
             "host",
-            "NAMES",
-            "The names by which it is asked beside localhost and its address, with commas between them",
+            "NAME",
+            "A name by which it is asked beside localhost and its address (may be given up to eight times)",
         ),
     );
     let command = with(
@@ -247,6 +247,15 @@ fn serve<'a>(alloc: Global) -> Result<Command<'a>, AllocError>
             alloc,
             "clerks",
             "Takes counts, picks and recounts too, and shows picking sheets, what is open and who is enrolled, for commands with --server",
+        ),
+    );
+    let command = with(
+        command,
+        option(
+            alloc,
+            "clerks-at",
+            "ADDR",
+            "An address beside that of --listen whose requests are taken as clerks' are with --clerks, and want no --from",
         ),
     );
     with_at(alloc, command)
@@ -322,8 +331,8 @@ fn with_lines<'a>(
     with_shows(alloc, place, parser)
 }
 
-// The program, without its subcommands.
-fn top<'a>(alloc: Global) -> Command<'a>
+/// The program, without its subcommands.
+pub(crate) fn top<'a>(alloc: Global) -> Command<'a>
     ensures { IsCommand (record meant.top_shape { is_leaf = true }) result }
 {
     described(

@@ -1,12 +1,12 @@
 //! The values of a line of words read, one by one.
-ghost use Rattle.std.specs.Prelude.{◌≡◌, IfOk, IfErr, MatchBool, codes};
+ghost use Rattle.std.specs.Prelude.{◌≡◌, ◌≤◌, IfOk, IfErr, MatchBool, codes, length, map};
 ghost use Rattle.clap.specs.Matches.{found_of};
 ghost use Rattle.clap.specs.Walk.{rows_of};
 ghost use Rattle.command_line.specs.Asked as meant;
 
 use crate::moments::moment_of;
 use crate::numbers::{count_of, number_of, wait_of};
-use crate::words::{Endpoint, LineFault, Opening, Place, Service};
+use crate::words::{Endpoint, LineFault, MOST_HOSTS, Opening, Place, Service};
 use clap::ArgMatches;
 use segments::Moment;
 use std::alloc::Global;
@@ -15,6 +15,14 @@ use std::net::SocketAddr;
 /// A usage fault with a text.
 pub(crate) fn usage(alloc: Global, text: &str) -> LineFault {
     match text.to_string(alloc) {
+        Ok(text) => LineFault::Usage(text),
+        Err(_) => LineFault::OutOfMemory,
+    }
+}
+
+// The usage fault of an option whose value isn't what it wants.
+fn wanting(alloc: Global, id: &str, wanted: &str) -> LineFault {
+    match ["--", id, " wants ", wanted].concat(alloc) {
         Ok(text) => LineFault::Usage(text),
         Err(_) => LineFault::OutOfMemory,
     }
@@ -65,8 +73,9 @@ pub(crate) fn given<'a>(
     }
 }
 
-// Where a server listens, as a text writes it; the fault where it writes nothing of the kind.
-fn endpoint_in<'a>(alloc: Global, text: &'a str, fault: &str) -> Result<Endpoint<'a>, LineFault>
+// Where a server listens, as this option's text writes it; a fault where it writes nothing of the
+// kind.
+fn endpoint_in<'a>(alloc: Global, id: &str, text: &'a str) -> Result<Endpoint<'a>, LineFault>
     ensures { meant.Reads (meant.IsEndpointText text.now) result }
 {
     if let Some(path) = text.strip_prefix("unix:") {
@@ -74,21 +83,12 @@ fn endpoint_in<'a>(alloc: Global, text: &'a str, fault: &str) -> Result<Endpoint
     }
     match SocketAddr::parse_ascii(text.as_bytes()) {
         Ok(address) => Ok(Endpoint::Inet(address)),
-        Err(_) => Err(usage(alloc, fault)),
+        Err(_) => Err(wanting(
+            alloc,
+            id,
+            "an IP address and a port, as 127.0.0.1:8080, or unix: and a path\n",
+        )),
     }
-}
-
-// Where a line says that a book is served.
-fn endpoint<'a>(alloc: Global, values: &ArgMatches<'a>) -> Result<Endpoint<'a>, LineFault>
-    ensures { meant.Reads
-        (meant.SaysEndpoint (rows_of (found_of values.now)) (codes "listen")) result }
-{
-    let text = given(alloc, values, "listen")?;
-    endpoint_in(
-        alloc,
-        text,
-        "--listen wants an IP address and a port, as 127.0.0.1:8080, or unix: and a path\n",
-    )
 }
 
 // The number from 1 to 65535 that a line says as this option, if it says it; the fault where it is
@@ -120,19 +120,38 @@ fn is_near(endpoint: &Endpoint<'_>) -> bool
     }
 }
 
-// Where a line says that a book is served, if that may be: other machines know a depositor by its
-// ISA alone, so an address that they reach wants a word more.
-fn guarded_endpoint<'a>(alloc: Global, values: &ArgMatches<'a>) -> Result<Endpoint<'a>, LineFault>
-    ensures { meant.Reads (meant.IsGuarded (rows_of (found_of values.now))) result }
+// Where a line says by this option that a book is served, if it says it, and if that may be: other
+// machines know a depositor by its ISA alone, and clerks by nothing, so an address that they reach
+// wants a word more.
+fn guarded_endpoint<'a>(
+    alloc: Global,
+    values: &ArgMatches<'a>,
+    id: &str,
+) -> Result<Option<Endpoint<'a>>, LineFault>
+    ensures { meant.Reads (meant.SaysGuarded (rows_of (found_of values.now)) id.now) result }
 {
-    let endpoint = endpoint(alloc, values)?;
+    let Some(text) = values.get_str(id) else {
+        return Ok(None);
+    };
+    let endpoint = endpoint_in(alloc, id, text)?;
     if is_near(&endpoint) || has_flag(values, "anyone") {
-        return Ok(endpoint);
+        return Ok(Some(endpoint));
     }
-    Err(usage(
+    Err(wanting(
         alloc,
-        "--listen wants 127.0.0.1 or ::1, or --anyone beside an address that other machines reach\n",
+        id,
+        "127.0.0.1 or ::1, or --anyone beside an address that other machines reach\n",
     ))
+}
+
+// Where a line says that a book is served, if that may be.
+fn endpoint<'a>(alloc: Global, values: &ArgMatches<'a>) -> Result<Endpoint<'a>, LineFault>
+    ensures { meant.Reads (meant.IsGuarded (rows_of (found_of values.now)) (codes "listen")) result }
+{
+    match guarded_endpoint(alloc, values, "listen")? {
+        Some(endpoint) => Ok(endpoint),
+        None => Err(usage(alloc, "a word is missing\n")),
+    }
 }
 
 /// What a line says as this option, if it has it.
@@ -142,6 +161,42 @@ pub(crate) fn text_of<'a>(values: &ArgMatches<'a>, id: &str) -> Option<&'a str>
     values.get_str(id)
 }
 
+// The fault of a line that says more names of hosts than it may.
+fn has_few_hosts(alloc: Global, values: &ArgMatches<'_>) -> Result<(), LineFault>
+    ensures { meant.Reads (λ nothing. meant.HasFewHosts (rows_of (found_of values.now))) result }
+{
+    let Some(names) = values.get_strs("host") else {
+        return Ok(());
+    };
+    if names.len() > MOST_HOSTS {
+        return Err(usage(alloc, "--host may be given eight times at most\n"));
+    }
+    Ok(())
+}
+
+// Eight texts: these, and the empty one for the rest.
+fn filled<'a>(names: &[&'a str]) -> [&'a str; MOST_HOSTS]
+    requires { length names.now ≤ meant.most_hosts }
+
+    ensures { map (λ h. h.now) result ≡ meant.filled (map (λ n. n.now) names.now) }
+{
+    let mut hosts = [""; MOST_HOSTS];
+    hosts[..names.len()].copy_from_slice(names);
+    hosts
+}
+
+// The names of hosts that a line says.
+fn hosts_of<'a>(values: &ArgMatches<'a>) -> [&'a str; MOST_HOSTS]
+    requires { meant.HasFewHosts (rows_of (found_of values.now)) }
+
+    ensures { meant.SaysHosts (rows_of (found_of values.now)) result }
+{
+    match values.get_strs("host") {
+        Some(names) => filled(names),
+        None => filled(&[]),
+    }
+}
+
 /// Where a line says that a book is served, and for how long.
 pub(crate) fn service_of<'a>(
     alloc: Global,
@@ -149,8 +204,10 @@ pub(crate) fn service_of<'a>(
 ) -> Result<Service<'a>, LineFault>
     ensures { meant.Reads (meant.SaysService (rows_of (found_of values.now))) result }
 {
+    has_few_hosts(alloc, values)?;
     Ok(Service {
-        endpoint: guarded_endpoint(alloc, values)?,
+        endpoint: endpoint(alloc, values)?,
+        clerks_at: guarded_endpoint(alloc, values, "clerks-at")?,
         count: few(
             alloc,
             values,
@@ -170,7 +227,7 @@ pub(crate) fn service_of<'a>(
             "--peers wants a number of connections from 1 to 65535\n",
         )?,
         clerks: has_flag(values, "clerks"),
-        hosts: text_of(values, "host"),
+        hosts: hosts_of(values),
         from: text_of(values, "from"),
     })
 }
@@ -195,11 +252,7 @@ pub(crate) fn server<'a>(
     let Some(text) = values.get_str("server") else {
         return Ok(None);
     };
-    let endpoint = endpoint_in(
-        alloc,
-        text,
-        "--server wants an IP address and a port, as 127.0.0.1:8080, or unix: and a path\n",
-    )?;
+    let endpoint = endpoint_in(alloc, "server", text)?;
     Ok(Some(endpoint))
 }
 

@@ -125,11 +125,16 @@ pub enum Task<'a> {
     },
 }
 
+/// How often a line may name hosts by which a server is asked, at most.
+pub const MOST_HOSTS: usize = 8;
+
 /// Where a book is served, and for how long.
 #[derive(Clone, Copy)]
 pub struct Service<'a> {
     /// Where to listen.
     pub endpoint: Endpoint<'a>,
+    /// Where to listen beside that, for clerks, if the line says it.
+    pub clerks_at: Option<Endpoint<'a>>,
     /// How many connections are served, 1 to 65535, if the line says it.
     pub count: Option<u16>,
     /// How many seconds a request is waited for, and again its response, 1 to 65535, if the line
@@ -139,9 +144,9 @@ pub struct Service<'a> {
     pub peers: Option<u16>,
     /// Whether clerks' requests are taken too.
     pub clerks: bool,
-    /// The names by which a request may call the server, with a comma between any two, if the line
-    /// says any.
-    pub hosts: Option<&'a str>,
+    /// The names by which a request may call the server, in the order of the line, each one name or
+    /// several with a comma between any two; after them the empty text.
+    pub hosts: [&'a str; MOST_HOSTS],
     /// The field by which what stands in front says for whom it asks, if the line names one.
     pub from: Option<&'a str>,
 }

@@ -11,3 +11,4 @@ pub mod TakesLaws
 mod RowsEnrolled
 pub mod ServingLaws
 mod InitRows
+mod ServedAlike

@@ -1,5 +1,6 @@
 -- The moments of connections.
 use Rattle.std.proofs.Common.{◌≡◌, ℕ, Bool, false, List, [], ◌∷◌, Option, Result, Ok, Err, OnErr, All, zero, suc, arith, map, subst, ap, inl, inr, ◌≤◌, refl}
+use Rattle.std.specs.Prelude.{⊤}
 use Rattle.std.specs.List.{FoldsTo}
 use Rattle.definitions.specs.Moments.{Moment}
 use Rattle.intake.specs.declared.served.Connection.{Connection}
@@ -57,14 +58,17 @@ stays asks p q [] h = none _
 stays {F} asks p q (c ∷ cs) h =
     first_of_all (λ (d : Connection). d.moment ≡ p.1) c cs h.1.0 (subst (λ (r : F × Moment). All (λ (d : Connection). d.moment ≡ r.1) cs) h.1.1 (stays asks h.0 q cs h.2))
 
-pub came : {F K : Type 0} (asks : F → Option Moment → F → Type 0) (standing : K → Standing) (served meant : Access) (has_clock : Bool) (ask : F) (first : Moment) (book left : K) (total count : ℕ) → served ≡ meant
+pub came : {F K : Type 0} (asks : F → Option Moment → F → Type 0) (standing : K → Standing) (served meant : Access) (has_clock : Bool) (ask : F) (first : Moment) (book left : K) (total count : ℕ)
+    → ((old new : Standing) (c : Connection) → IsServed served old new c → IsServed meant old new c)
     → Comes asks (λ old c new. IsServed served (standing old) (standing new) c) has_clock ask first book left total count
     → Came (λ old c new. IsServed meant (standing old) (standing new) c) has_clock first book left total count
-came {F} {K} asks standing served meant has_clock ask first book left total count same h = record {
+came {F} {K} asks standing served meant has_clock ask first book left total count alike h = record {
   connections = h.connections;
   moments = λ e. stays asks (ask, first) h.last h.connections
       (subst (λ (b : Bool). FoldsTo (NextMoment asks b) (ask, first) (map moment_of h.connections) h.last) e h.moments);
-  served = subst (λ (a : Access). FoldsTo (λ (old : K) (c : Connection) (new : K). IsServed a (standing old) (standing new) c) book h.connections left) same h.served;
+  served = folds_by (λ (old : K) (c : Connection) (new : K). IsServed served (standing old) (standing new) c) book h.connections left h.served
+      (λ _. ⊤) tt (λ k. k) (λ (old : K) (c : Connection) (new : K). IsServed meant (standing old) (standing new) c)
+      (λ f c g _ is. (tt, alike (standing f) (standing g) c is));
   many = h.many;
   counted = h.counted;
 }

@@ -1,5 +1,6 @@
 -- Whose requests a server takes, and when its connections come.
 use Rattle.std.specs.Prelude.{◌≡◌, ◌≤◌, ℕ, Bool, true, false, List, Option, Some, None, All, length, map, unwrap_or}
+use Rattle.std.specs.Borrow.{Bor}
 use Rattle.std.specs.List.{FoldsTo}
 use Rattle.definitions.specs.Moments.{Moment}
 use Rattle.store.specs.Standing.{Standing, IsUnchanged}
@@ -15,15 +16,24 @@ abbrev pub audience_of : Bool → Audience
 audience_of true = Clerks
 audience_of false = Testers
 
--- whom a service answers: there are always doors, which know it by these names beside its address,
--- and the health of the book is always told
-abbrev pub access_of : Service → Access
-access_of service = record {
+-- whom a service answers whose names lie there: there are always doors, which know it by these
+-- names beside its address, and the health of the book is always told
+abbrev pub access_by : Bor (List (Bor (List ℕ))) → Service → Access
+access_by names service = record {
   audience = audience_of service.clerks;
-  doors = Some (record { names = service.hosts });
+  doors = Some (record { names = names });
   from = service.from;
   tells_health = true;
 }
+
+-- whom a service answers; where its names lie changes nothing
+abbrev pub access_of : Service → Access
+access_of service = access_by (record { ref_ptr = (0, 0); now = service.hosts }) service
+
+-- it is whom a service answers, and its names lie somewhere
+abbrev pub IsAccessOf : Service → Access → Type 0
+IsAccessOf service access = (names : Bor (List (Bor (List ℕ)))) × (names.now ≡ service.hosts)
+    × (access ≡ access_by names service)
 
 -- how many connections are served: more than any server lives to serve, where nobody says
 abbrev pub count_of : Option ℕ → ℕ

@@ -8,14 +8,14 @@ ghost use Rattle.commands.specs.Serving.{AfterLook, NextMoment, Comes, HasServed
 use crate::causes::{about_endpoint, about_replaced};
 use crate::clock::now;
 use crate::clock_told::tell_clock;
-use crate::endpoints::{listen, remove_socket, tell_endpoint};
+use crate::endpoints::{listen_for, remove_sockets, tell_endpoints};
 use crate::served_files::ServedFile;
 use crate::told::{CommandError, ExitStatus};
 use crate::verbosity::Verbosity;
 use command_line::Service;
 use http::StatusCode;
 use intake::{
-    Access, Audience, Callers, Connection, Crowd, Doors, Listener, Patience, RequestLine,
+    Access, Audience, Callers, Connection, Crowd, Doors, Listeners, Patience, RequestLine,
     serve_within, write_sender,
 };
 use std::io;
@@ -48,14 +48,14 @@ fn audience_of(clerks: bool) -> Audience
     }
 }
 
-// Whom a service answers.
-fn access_of<'a>(service: &Service<'a>) -> Access<'a>
-    ensures { result ≡ meant.access_of service.now }
+// Whom a service answers where it listens for all.
+fn access_of<'s>(service: &'s Service<'_>) -> Access<'s>
+    ensures { meant.IsAccessOf service.now result }
 {
     Access {
         audience: audience_of(service.clerks),
         doors: Some(Doors {
-            names: service.hosts,
+            names: &service.hosts,
         }),
         from: service.from,
         tells_health: true,
@@ -274,16 +274,16 @@ pub fn serve_on<L: Callers, K: Keeper, A: FnMut() -> bool, W: io::Write, E: io::
     )
 }
 
-/// The connections of a listener, as many at once as a service says.
-pub fn crowd_of<'r, 'a>(
+/// The connections of a service's listeners, as many at once as it says.
+pub fn crowd_of<'r, 's>(
     rt: &'r HostRuntime,
-    listener: Listener,
-    service: &Service<'a>,
-) -> io::Result<Crowd<'r, 'a, HostRuntime>> {
+    listeners: Listeners,
+    service: &'s Service<'_>,
+) -> io::Result<Crowd<'r, 's, HostRuntime>> {
     Crowd::open(
         rt,
         rt.alloc(),
-        listener,
+        listeners,
         access_of(service),
         count_of(service.count),
         service.peers,
@@ -291,10 +291,10 @@ pub fn crowd_of<'r, 'a>(
     )
 }
 
-/// Serves the book of a file at an endpoint, and where it is asked for says where it listens. A
-/// clock before the last entry, or a day or more after it, is told on standard error first. Beyond
-/// the faults of `serve_on` it is Device (44) where nobody can listen there, and where the file's
-/// name leads to another file, or to none, when a connection comes.
+/// Serves the book of a file where a service says, and where it is asked for says where it
+/// listens. A clock before the last entry, or a day or more after it, is told on standard error
+/// first. Beyond the faults of `serve_on` it is Device (44) where it can't listen, and where the
+/// file's name leads to another file, or to none, when a connection comes.
 pub fn serve<K: Keeper, W: io::Write, E: io::Write>(
     rt: &HostRuntime,
     book: &mut K,
@@ -315,14 +315,11 @@ pub fn serve<K: Keeper, W: io::Write, E: io::Write>(
     ensures goes { GoesOn (K.standing book.old) (K.standing book.new) }
 {
     tell_clock(book, has_clock, first, err);
-    let listener = match listen(rt, &service.endpoint) {
-        Ok(listener) => listener,
-        Err(error) => return Err(about_endpoint(rt.alloc(), &service.endpoint, error)),
-    };
+    let listeners = listen_for(rt, service)?;
     if verbosity.explains {
-        tell_endpoint(err, &listener, &service.endpoint);
+        tell_endpoints(err, &listeners, service);
     }
-    let mut crowd = match crowd_of(rt, listener, service) {
+    let mut crowd = match crowd_of(rt, listeners, service) {
         Ok(crowd) => crowd,
         Err(error) => return Err(about_endpoint(rt.alloc(), &service.endpoint, error)),
     };
@@ -331,7 +328,7 @@ pub fn serve<K: Keeper, W: io::Write, E: io::Write>(
         rt, &mut crowd, service, book, first, has_clock, is_there, verbosity, out, err,
     );
     tell_lost(err, crowd.finish());
-    remove_socket(rt, &service.endpoint);
+    remove_sockets(rt, service);
     match ended {
         Err(CommandError::Fault(Fault::Device)) if !file.is_there(rt) => {
             Err(about_replaced(rt.alloc(), file.name()))

@@ -23,6 +23,7 @@ pub mod Beginnings
 pub mod Whole
 pub mod Counted
 pub mod Told
+pub mod ByDoor
 pub mod Probes
 pub mod Others
 pub mod Tried

@@ -12,11 +12,12 @@ use Rattle.peers.specs.declared.listener.PeerAddress.{PeerAddress}
 use Rattle.intake.specs.declared.audience.Access.{Access}
 use Rattle.intake.specs.declared.served.Connection.{Connection}
 use Rattle.intake.specs.declared.served.RequestLine.{RequestLine}
-use Rattle.intake.specs.Admitting.{Admission, TurnedAway, ForHealth, LetIn, admission_by, admission_of, answer_by, answer_past, barred_at, command_by, command_past, is_health, is_health_by, without_health}
+use Rattle.intake.specs.Admitting.{Admission, TurnedAway, ForHealth, LetIn, access_by, admission_by, admission_of, answer_by, answer_past, barred_at, command_by, command_past, is_health, is_health_by, without_health}
 use Rattle.intake.specs.Connections.{HasCounted, HasTold, IsEnough, IsNotAccepted, IsServed, IsServedOn}
 use Rattle.intake.specs.Health.{leads_to_health}
 use Rattle.intake.specs.Serving.{IsExchange, IsResponseWritten, IsUnread, IsUnwritten}
 use Rattle.intake.proofs.Counted.{all_count}
+use Rattle.intake.proofs.ByDoor.{health_by}
 
 -- no path leads to it, and no request is for it
 
@@ -52,8 +53,8 @@ module _ (access : Access) (old new : Standing) (c : Connection) (none : access.
   plain_of None is = is.1.health
   plain_of (Some peer) is = plain_on is
 
-  pub plain : IsServed access old new c → c.served.is_health ≡ false
-  plain is = plain_of c.peer is.became
+pub plain : (access : Access) (old new : Standing) (c : Connection) → access.tells_health ≡ false → IsServed access old new c → c.served.is_health ≡ false
+plain access old new c none is = plain_of (access_by access c.door) old new c (health_by access c.door ∙ none) c.peer is.became
 
 -- so all that were told count
 

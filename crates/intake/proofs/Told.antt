@@ -47,6 +47,11 @@ served_of access old new c known before later unread still unwritten more sent o
   own = own;
 }
 
+-- by whom those have access who come by its door
+pub served_by : (access by : Access) (old new : Standing) (sent : List ℕ) (c : Connection) → by ≡ access
+    → IsServedOf by old new sent c → IsServedOf access old new sent c
+served_by access by old new sent c e is = subst (λ (a : Access). IsServedOf a old new sent c) e is
+
 -- with a peer, and with none
 pub accepted : {P : Type 0} (access : Access) (old new : Standing) (c : Connection) (peer : P) (found : Option P) → found ≡ Some peer → IsServedOn access old new c
     → MatchOption found (IsUnchanged old new × IsNotAccepted c) (λ p. IsServedOn access old new c)

@@ -19,6 +19,8 @@ use Rattle.intake.specs.Health.{leads_to_health, health_response, health_asks}
 use Rattle.intake.specs.Targets.{ToCall, asked_with, call_for, command_with, response_with, target_of}
 use Rattle.request_guard.specs.declared.askers.Asker.{Asker}
 use Rattle.request_guard.specs.declared.askers.Asker.TheVariants.{Unnamed}
+use Rattle.peers.specs.declared.entrances.Door.{Door}
+use Rattle.peers.specs.declared.entrances.Door.TheVariants.{First, Second}
 use Rattle.intake.specs.declared.audience.Access.{Access}
 use Rattle.intake.specs.declared.audience.Audience.{Audience}
 use Rattle.intake.specs.declared.audience.Audience.TheVariants.{Partners, Testers, Clerks}
@@ -89,6 +91,22 @@ without_health access = record {
   from = access.from;
   tells_health = false;
 }
+
+-- whom a server answers by its second door: clerks, who come to an address of their own, so that
+-- nobody in front says for whom they ask; but where partners alone are served, nobody else
+abbrev pub access_beside : Audience → Access → Access
+access_beside Partners access = access
+access_beside audience access = record {
+  audience = Clerks;
+  doors = access.doors;
+  from = None;
+  tells_health = access.tells_health;
+}
+
+-- whom it answers by a door
+abbrev pub access_by : Access → Door → Access
+access_by access First = access
+access_by access Second = access_beside access.audience access
 
 -- why a request is turned away at these doors; where there are none, no request is
 abbrev pub barred_at : Option Doors → RequestHead → Option Barred

@@ -4,7 +4,10 @@ use Rattle.std.specs.List.{FoldsTo}
 use Rattle.definitions.specs.Moments.{Moment}
 use Rattle.store.specs.Standing.{Standing, IsUnchanged, GoesOn}
 use Rattle.store.specs.Fault.TheVariants.{Device}
+use Rattle.intake.specs.Admitting.{access_by}
 use Rattle.intake.specs.Serving.{IsResponseWritten, IsUnread, IsUnwritten}
+use Rattle.peers.specs.declared.entrances.Door.{Door}
+use Rattle.peers.specs.declared.entrances.Door.TheVariants.{First}
 use Rattle.peers.specs.declared.listener.PeerAddress.{PeerAddress}
 use Rattle.peers.specs.declared.listener.PeerAddress.TheVariants.{Inet}
 use Rattle.intake.specs.declared.audience.Access.{Access}
@@ -23,6 +26,11 @@ moment_of c = c.moment
 abbrev pub address_of : Caller → PeerAddress
 address_of (callers.Direct stream peer) = Inet peer
 address_of (callers.Gathered arrival) = arrival.peer.address
+
+-- by which door it comes
+abbrev pub door_of : Caller → Door
+door_of (callers.Direct stream peer) = First
+door_of (callers.Gathered arrival) = arrival.peer.door
 
 -- A connection that was accepted: there is what its peer sent and what was written to it, where
 -- these are known, and how often a read and a write of it failed, of which its outcome, its line,
@@ -58,6 +66,7 @@ pub record IsNotAccepted (c : Connection) : Type 0 where
   pub bytes : c.served.bytes ≡ 0
   pub health : c.served.is_health ≡ false
   pub millis : c.millis ≡ None
+  pub door : c.door ≡ First
 
 -- what became of a connection, by whether it has a peer, and of the book meanwhile, which is as it
 -- was where it has none
@@ -66,11 +75,12 @@ IsConnection access old new c =
     MatchOption c.peer (IsUnchanged old new
     × IsNotAccepted c) (λ peer. IsServedOn access old new c)
 
--- the same of a book that needn't be opened again before it; no count falls meanwhile
+-- The same of a book that needn't be opened again before it, where those were answered who have
+-- access by the connection's door; no count falls meanwhile.
 pub record IsServed (access : Access) (old new : Standing) (c : Connection) : Type 0 where
   pub serves : old.shut ≡ false
   pub goes : GoesOn old new
-  pub became : IsConnection access old new c
+  pub became : IsConnection (access_by access c.door) old new c
 
 -- A clock was asked so often, and as many connections were handed to a closure, one after the
 -- other, each with the moment that the clock gave for it. This took the clock and the closure from

@@ -1,4 +1,8 @@
 //! Whom a server answers.
+ghost use Rattle.std.specs.Prelude.{◌≡◌};
+ghost use Rattle.intake.specs.Admitting as meant;
+
+use peers::Door;
 use request_guard::Doors;
 
 /// Who is served.
@@ -28,6 +32,23 @@ pub struct Access<'n> {
     /// Whether `GET /health` tells whoever asks that the book serves, and how far it goes. Such a
     /// request doesn't count as a connection.
     pub tells_health: bool,
+}
+
+/// Whom a server answers by one of its doors. By the first it is those who have access. By the
+/// second it is clerks, who come to an address of their own: nobody in front says for whom they
+/// ask. But where partners alone are served, nobody else is by the second either.
+pub(crate) fn access_by(access: Access<'_>, door: Door) -> Access<'_>
+    ensures { result ≡ meant.access_by access.entry door }
+{
+    match (door, access.audience) {
+        (Door::First, _) | (Door::Second, Audience::Partners) => access,
+        (Door::Second, _) => Access {
+            audience: Audience::Clerks,
+            doors: access.doors,
+            from: None,
+            tells_health: access.tells_health,
+        },
+    }
 }
 
 /// That of all partners.

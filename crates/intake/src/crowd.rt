@@ -2,7 +2,7 @@
 //! its response.
 ghost use Rattle.httparse.specs.Spans.{IsRequestWithin};
 
-use crate::audience::Access;
+use crate::audience::{Access, Audience, access_by};
 use crate::callers::{Caller, Callers};
 use crate::heading::{MethodKind, length_of, read_method};
 use crate::patience::Patience;
@@ -11,7 +11,7 @@ use crate::targets::{find_target, has_body};
 use head_fields::{MOST_FIELDS, MOST_HEAD, is_among, values_of};
 use httparse::Status;
 use httparse::spans::{EMPTY_HEADER_SPAN, HeaderSpan, RequestSpans, parse_request};
-use peers::{Arrival, Framing, Limits, Listener, Next, Room};
+use peers::{Arrival, Door, Framing, Limits, Listeners, Next, Room};
 use std::alloc::Global;
 use std::io;
 use std::net::Net;
@@ -23,7 +23,7 @@ const PEERS: u16 = 256;
 // How many bytes of all requests are held at once, 64 MiB.
 const MOST_HELD: usize = 67_108_864;
 
-// Tells how long a request is to those who have access.
+// Tells how long a request is to those who have access by its door.
 #[derive(Clone, Copy)]
 struct RequestFraming<'n> {
     alloc: Global,
@@ -35,6 +35,7 @@ impl RequestFraming<'_> {
     // head, goes on after that.
     fn size_after(
         &self,
+        audience: Audience,
         method: MethodKind,
         got: &[u8],
         fields: &[HeaderSpan],
@@ -42,7 +43,7 @@ impl RequestFraming<'_> {
     ) -> usize
         requires { IsRequestWithin got.now fields.now spans.now }
     {
-        let has_body = match find_target(self.alloc, self.access.audience, spans.path.of(got)) {
+        let has_body = match find_target(self.alloc, audience, spans.path.of(got)) {
             Ok(target) => has_body(method, &target),
             Err(_) => matches!(method, MethodKind::Post),
         };
@@ -57,7 +58,8 @@ impl RequestFraming<'_> {
 }
 
 impl Framing for RequestFraming<'_> {
-    fn size_of(&self, begun: &[u8]) -> Option<usize> {
+    fn size_of(&self, door: Door, begun: &[u8]) -> Option<usize> {
+        let access = access_by(self.access, door);
         let got = &begun[..begun.len().min(MOST_HEAD)];
         let mut fields = [EMPTY_HEADER_SPAN; MOST_FIELDS];
         let spans = match parse_request(got, &mut fields) {
@@ -65,13 +67,13 @@ impl Framing for RequestFraming<'_> {
             Ok(Status::Partial) if begun.len() < MOST_HEAD => return None,
             _ => return Some(0),
         };
-        let is_refused = barred(self.access.doors, got, &fields, &spans).is_some()
+        let is_refused = barred(access.doors, got, &fields, &spans).is_some()
             || is_among(got, &fields[..spans.headers], b"Transfer-Encoding");
         if is_refused {
             return Some(spans.len);
         }
         let method = read_method(spans.method.of(got));
-        Some(self.size_after(method, got, &fields, &spans))
+        Some(self.size_after(access.audience, method, got, &fields, &spans))
     }
 }
 
@@ -85,13 +87,13 @@ pub struct Crowd<'q, 'n, Q> {
 }
 
 impl<'q, 'n, Q: Clock> Crowd<'q, 'n, Q> {
-    /// That of a listener, for so many connections in all, without those that ask for the health of
-    /// the book; at once there are so many, 256 where that is None. The error is the system's, or
-    /// want of memory.
+    /// That of these listeners, each of which is a door of the server, for so many connections in
+    /// all, without those that ask for the health of the book; at once there are so many, 256 where
+    /// that is None. The error is the system's, or want of memory.
     pub fn open<N: Net>(
         net: &N,
         alloc: Global,
-        listener: Listener,
+        listeners: Listeners,
         access: Access<'n>,
         count: u64,
         peers: Option<u16>,
@@ -104,7 +106,7 @@ impl<'q, 'n, Q: Clock> Crowd<'q, 'n, Q> {
             patience: patience.limit,
         };
         Ok(Crowd {
-            room: Room::open(net, alloc, listener, patience.timer, limits)?,
+            room: Room::open(net, alloc, listeners, patience.timer, limits)?,
             framing: RequestFraming { alloc, access },
             lost: 0,
         })

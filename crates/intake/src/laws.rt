@@ -15,8 +15,10 @@ ghost use Rattle.intake.specs.Fields.{head_of};
 ghost use Rattle.intake.specs.Routes.{route_of};
 ghost use Rattle.intake.specs.Lines.{sender_in};
 ghost use Rattle.intake.specs.Targets.{asked_with, interchange_with, target_of};
-ghost use Rattle.intake.specs.Admitting.{answer_by, answer_for, answer_of, command_by, command_for, command_in, is_health_by, without_health};
+ghost use Rattle.intake.specs.Admitting.{access_by, answer_by, answer_for, answer_of, command_by, command_for, command_in, is_health_by, of_partners, without_health};
 ghost use Rattle.request_guard.specs.declared.askers.Asker.{Asker};
+ghost use Rattle.peers.specs.declared.entrances.Door.{Door};
+ghost use Rattle.peers.specs.declared.entrances.Door.TheVariants.{First, Second};
 ghost use Rattle.intake.specs.Serving.{BeginsWith, IsExchange};
 ghost use Rattle.intake.specs.declared.audience.Access.{Access};
 ghost use Rattle.intake.specs.declared.served.RequestLine.{RequestLine};
@@ -107,6 +109,18 @@ pub fn others_are_turned_away()
         → (W : Who) (L : List Entry) (t : Moment)
         → (command_for asker audience h rest ≡ None)
         × (answer_for asker audience W L h rest t ≡ bare 403) }
+{}
+
+/// A second door is the clerks': by it clerks are served, for whom nobody in front says who asks.
+/// It changes nothing of the first, and turns away whatever the first does by its head; and where
+/// partners alone are served, nobody else is by either.
+pub fn a_second_door_is_the_clerks()
+    ensures first { (access : Access) → access_by access First ≡ access }
+    ensures clerks { (access : Access) → access.audience ≢ Partners
+        → let by = access_by access Second in (by.audience ≡ Clerks) × (by.from ≡ None) }
+    ensures guarded { (access : Access) (door : Door)
+        → (access_by access door).doors ≡ access.doors }
+    ensures partners { (door : Door) → access_by of_partners door ≡ of_partners }
 {}
 
 /// Where an access tells no health, no request is for it; and telling it changes nothing of any

@@ -40,7 +40,7 @@ pub use folders::{
 pub use listening::{serve_count, serve_within};
 pub use looking::owner;
 pub use patience::Patience;
-pub use peers::{Listener, PeerAddress};
+pub use peers::{Door, Listener, Listeners, PeerAddress};
 pub use request_guard::Doors;
 pub use responding::respond;
 pub use response::{Allow, Body, MediaType, Response, Status};

@@ -1,16 +1,17 @@
 ghost use Rattle.std.specs.Prelude.{◌≡◌, ◌⊎◌, ℕ, ◌+◌, ◌-◌, ◌^◌, ◌<◌, ◌≤◌, if◌then◌else◌, Some, None, true, false, OnOk, OnErr, IfErr, IfSome, IsErrOf};
 ghost use Rattle.store.specs.Standing.{GoesOn};
-ghost use Rattle.intake.specs.Admitting.{of_partners};
+ghost use Rattle.intake.specs.Admitting.{access_by as meant_by, of_partners};
+ghost use Rattle.peers.specs.declared.entrances.Door.TheVariants.{First};
 ghost use Rattle.peers.specs.declared.listener.PeerAddress.TheVariants.{Inet};
-ghost use Rattle.intake.specs.Connections.{HasTold, HasCounted, IsEnough, address_of, IsConnection, IsNotAccepted, IsConnectionOutcome, IsServed, IsServedOn, IsServedOf};
+ghost use Rattle.intake.specs.Connections.{HasTold, HasCounted, IsEnough, address_of, door_of, IsConnection, IsNotAccepted, IsConnectionOutcome, IsServed, IsServedOn, IsServedOf};
 
-use crate::audience::{Access, OF_PARTNERS};
+use crate::audience::{Access, OF_PARTNERS, access_by};
 use crate::callers::{Caller, Callers, OneByOne};
 use crate::patience::{Patience, Patient, StoppedClock};
 use crate::served::{Connection, Served};
 use crate::serving::serve_telling;
 use counted_io::Gauge;
-use peers::{Arrival, PeerAddress};
+use peers::{Arrival, Door, PeerAddress};
 use std::alloc::Global;
 use std::io::Read;
 use std::net::{Shutdown, SocketAddr, TcpListener, TcpStream};
@@ -48,8 +49,8 @@ fn millis_since<Q: Clock>(timer: &Q, begun: Option<Instant>) -> Option<u64> {
     Some(u64::try_from(took.as_millis()).unwrap_or(u64::MAX))
 }
 
-// Serves the request of a connection. What its peer still sends after the response is no part of
-// the time that it took.
+// Serves the request of a connection, which came by the first door. What its peer still sends after
+// the response is no part of the time that it took.
 fn serve_on<K: Keeper, Q: Clock>(
     alloc: Global,
     stream: &TcpStream,
@@ -61,9 +62,10 @@ fn serve_on<K: Keeper, Q: Clock>(
 ) -> Connection
     ensures moment { result.moment ≡ moment }
     ensures peer { result.peer ≡ Some (Inet peer) }
+    ensures door { result.door ≡ First }
     ensures outcome { IsConnectionOutcome result }
-    ensures served { IsServedOn access.entry (K.standing keeper.old) (K.standing keeper.new)
-        result }
+    ensures served { IsServedOn (meant_by access.entry result.door) (K.standing keeper.old)
+        (K.standing keeper.new) result }
     ensures goes { GoesOn (K.standing keeper.old) (K.standing keeper.new) }
 {
     let begun = Instant::now(patience.timer).ok();
@@ -77,13 +79,15 @@ fn serve_on<K: Keeper, Q: Clock>(
     Connection {
         moment,
         peer: Some(PeerAddress::Inet(peer)),
+        door: Door::First,
         served,
         millis,
         lost: 0,
     }
 }
 
-// Answers a connection whose request was gathered: by what its own peer sent, and by nothing else.
+// Answers a connection whose request was gathered: by what its own peer sent, and by nothing else,
+// and as those are answered who come by its door.
 fn answer_gathered<K: Keeper, L: Callers>(
     alloc: Global,
     callers: &mut L,
@@ -94,12 +98,15 @@ fn answer_gathered<K: Keeper, L: Callers>(
 ) -> Connection
     ensures moment { result.moment ≡ moment }
     ensures peer { result.peer ≡ Some arrival.peer.address }
+    ensures door { result.door ≡ arrival.peer.door }
     ensures outcome { IsConnectionOutcome result }
-    ensures served { IsServedOf access.entry (K.standing keeper.old) (K.standing keeper.new)
-        arrival.peer.bytes.items result }
+    ensures served { IsServedOf (meant_by access.entry result.door) (K.standing keeper.old)
+        (K.standing keeper.new) arrival.peer.bytes.items result }
     ensures goes { GoesOn (K.standing keeper.old) (K.standing keeper.new) }
 {
     let peer = arrival.address();
+    let door = arrival.door();
+    let access = access_by(access, door);
     let mut reader = Gauge::new(arrival.reader());
     let mut writer = Gauge::new(arrival.writer(alloc));
     let served = serve_telling(alloc, &mut reader, &mut writer, keeper, access, moment);
@@ -111,6 +118,7 @@ fn answer_gathered<K: Keeper, L: Callers>(
     Connection {
         moment,
         peer: Some(peer),
+        door,
         served,
         millis,
         lost: callers.take_lost(),
@@ -127,6 +135,7 @@ fn not_accepted(moment: Moment) -> Connection
     Connection {
         moment,
         peer: None,
+        door: Door::First,
         served: Served {
             outcome: Err(Fault::Device),
             line: None,
@@ -152,10 +161,11 @@ fn serve_next<K: Keeper, L: Callers, Q: Clock>(
 ) -> Connection
     ensures moment { result.moment ≡ moment }
     ensures peer { IfSome accepted (λ caller. result.peer ≡ Some (address_of caller)) }
+    ensures door { IfSome accepted (λ caller. result.door ≡ door_of caller) }
     ensures nobody { accepted ≡ None → result.peer ≡ None }
     ensures outcome { IsConnectionOutcome result }
-    ensures served { IsConnection access.entry (K.standing keeper.old) (K.standing keeper.new)
-        result }
+    ensures served { IsConnection (meant_by access.entry result.door) (K.standing keeper.old)
+        (K.standing keeper.new) result }
     ensures goes { GoesOn (K.standing keeper.old) (K.standing keeper.new) }
 {
     match accepted {
@@ -195,7 +205,8 @@ fn count_next<L: Callers>(callers: &mut L, connection: &Connection, counted: u64
 /// `told` is handed exactly that many that count.
 ///
 /// So the book goes from connection to connection, of the very ones that are told, in their order:
-/// each is as `IsServed` says of its book before, which needn't be opened again, and after.
+/// each is as `IsServed` says of its book before, which needn't be opened again, and after, and is
+/// answered as those are who have access by its door.
 /// Whatever ends it, the book is as the last of them left it.
 pub fn serve_within<
     L: Callers,

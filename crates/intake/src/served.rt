@@ -5,7 +5,7 @@ ghost use Rattle.definitions.specs.Header.{who_text};
 ghost use Rattle.intake.specs.Lines.{sender_text};
 
 use http::StatusCode;
-use peers::PeerAddress;
+use peers::{Door, PeerAddress};
 use std::io;
 use store::{Fault, Moment, Who};
 
@@ -55,6 +55,9 @@ pub struct Connection {
     pub moment: Moment,
     /// Where its peer is. None where it couldn't be accepted.
     pub peer: Option<PeerAddress>,
+    /// By which of the server's doors it came: the first where there is one alone, and where it
+    /// couldn't be accepted.
+    pub door: Door,
     /// What became of its request.
     pub served: Served,
     /// The milliseconds from its acceptance to the end of its response. None where it couldn't be

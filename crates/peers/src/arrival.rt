@@ -1,6 +1,7 @@
 //! A connection that is answered.
 ghost use Rattle.std.specs.Prelude.{◌≡◌, []};
 
+use crate::entrances::Door;
 use crate::gathered::{End, Gathered};
 use crate::listener::PeerAddress;
 use crate::peer::Peer;
@@ -25,6 +26,13 @@ impl Arrival {
         ensures { result ≡ self.now.peer.address }
     {
         self.peer.address
+    }
+
+    /// By which of the room's listeners it came.
+    pub fn door(&self) -> Door
+        ensures { result ≡ self.now.peer.door }
+    {
+        self.peer.door
     }
 
     /// What came of its request.

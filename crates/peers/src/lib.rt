@@ -3,6 +3,7 @@
 #![tactic(auto)]
 
 mod arrival;
+mod entrances;
 mod gathered;
 mod listener;
 mod peer;
@@ -11,6 +12,7 @@ mod sending;
 mod streams;
 
 pub use arrival::Arrival;
+pub use entrances::{Door, Listeners};
 pub use gathered::{End, Gathered};
 pub use listener::{Listener, PeerAddress};
 pub use peer::Framing;

@@ -3,6 +3,7 @@ ghost use Rattle.std.specs.Prelude.{◌≡◌, ◌≢◌, ◌≤◌, [], length,
 ghost use Rattle.std.specs.Io.KnownBytes.{Appends, Consumes, Keeps, append_known};
 ghost use Rattle.peers.specs.Gains.{Gains};
 
+use crate::entrances::Door;
 use crate::gathered::{End, Gathered};
 use crate::listener::PeerAddress;
 use crate::streams::Stream;
@@ -21,9 +22,9 @@ const MOST_REST: usize = 2_097_152;
 
 /// How long a request is.
 pub trait Framing {
-    /// How many bytes the request has that begins with these, at most; None where that can't be
-    /// said yet. One that is refused by its head has no more than these.
-    fn size_of(&self, begun: &[u8]) -> Option<usize>;
+    /// How many bytes the request has that begins with these, at most, where it came by this door;
+    /// None where that can't be said yet. One that is refused by its head has no more than these.
+    fn size_of(&self, door: Door, begun: &[u8]) -> Option<usize>;
 }
 
 /// How far a connection is.
@@ -49,6 +50,8 @@ pub(crate) struct Peer<T> {
     stream: T,
     /// Where it comes from.
     pub address: PeerAddress,
+    /// By which of the room's listeners it came.
+    pub door: Door,
     /// How far it is.
     pub phase: Phase,
     // What came of its request; later its response.
@@ -110,11 +113,21 @@ fn write_once<T: Write>(stream: &mut T, bytes: &[u8]) -> Option<usize>
 }
 
 impl<T: Stream> Peer<T> {
-    /// A connection that was accepted now.
-    pub(crate) fn new(stream: T, address: PeerAddress, empty: Vec<u8>, now: Duration) -> Peer<T> {
+    /// A connection that was accepted now by this door.
+    pub(crate) fn new(
+        stream: T,
+        address: PeerAddress,
+        door: Door,
+        empty: Vec<u8>,
+        now: Duration,
+    ) -> Peer<T>
+        ensures address { result.address ≡ address }
+        ensures door { result.door ≡ door }
+    {
         Peer {
             stream,
             address,
+            door,
             phase: Phase::Arriving,
             bytes: empty,
             size: None,
@@ -175,6 +188,7 @@ impl<T: Stream> Peer<T> {
     /// It comes to another phase, in which it is looked at at once.
     pub(crate) fn enter(&mut self, phase: Phase, now: Duration)
         ensures phase { self.new.phase ≡ phase }
+        ensures door { self.new.door ≡ self.old.door }
         ensures stream { self.new.stream ≡ self.old.stream }
         ensures bytes { self.new.bytes ≡ self.old.bytes }
         ensures passed { self.new.passed ≡ self.old.passed }
@@ -201,6 +215,7 @@ impl<T: Stream> Peer<T> {
 
     // All of its response has left.
     fn close(&mut self, now: Duration)
+        ensures door { self.new.door ≡ self.old.door }
         ensures stream { self.new.stream ≡ self.old.stream }
         ensures none { self.new.bytes.items ≡ [] }
     {
@@ -214,6 +229,7 @@ impl<T: Stream> Peer<T> {
 
     // Its time is over.
     fn give_up(&mut self, now: Duration)
+        ensures door { self.new.door ≡ self.old.door }
         ensures came { self.old.phase ≡ Phase.Arriving
             → self.new.phase ≡ Phase.Waiting End.Broken }
         ensures left { self.old.phase ≡ Phase.Leaving → self.new.phase ≡ Phase.Lost }
@@ -227,11 +243,12 @@ impl<T: Stream> Peer<T> {
 
     // Whether its request is whole now.
     fn is_whole<F: Framing>(&mut self, framing: &F) -> bool
+        ensures door { self.new.door ≡ self.old.door }
         ensures stream { self.new.stream ≡ self.old.stream }
         ensures bytes { self.new.bytes ≡ self.old.bytes }
     {
         if self.size.is_none() {
-            self.size = framing.size_of(&self.bytes);
+            self.size = framing.size_of(self.door, &self.bytes);
         }
         match self.size {
             Some(size) => size <= self.bytes.len(),
@@ -242,7 +259,8 @@ impl<T: Stream> Peer<T> {
     // Reads what comes of its request: unless that breaks off, what it grows by is what its own
     // stream gave.
     fn take_in<F: Framing>(&mut self, framing: &F, now: Duration)
-        ensures { self.new.phase ≢ Phase.Waiting End.Broken
+        ensures door { self.new.door ≡ self.old.door }
+        ensures came { self.new.phase ≢ Phase.Waiting End.Broken
             → Gains (T.remaining self.old.stream) (T.remaining self.new.stream)
             self.old.bytes.items self.new.bytes.items }
     {
@@ -261,7 +279,8 @@ impl<T: Stream> Peer<T> {
     // Writes what is left of its response: unless that is lost, what its stream took and what is
     // still to leave is the same as before, one after the other.
     fn let_out(&mut self, now: Duration)
-        ensures { self.new.phase ≢ Phase.Lost → Keeps
+        ensures door { self.new.door ≡ self.old.door }
+        ensures left { self.new.phase ≢ Phase.Lost → Keeps
             (append_known (T.contents self.old.stream) (drop self.old.passed self.old.bytes.items))
             (append_known (T.contents self.new.stream)
             (drop self.new.passed self.new.bytes.items)) }
@@ -280,7 +299,9 @@ impl<T: Stream> Peer<T> {
     }
 
     // Drops what its peer still sends.
-    fn drop_rest(&mut self) {
+    fn drop_rest(&mut self)
+        ensures door { self.new.door ≡ self.old.door }
+    {
         let mut buf = [0u8; CHUNK];
         match self.stream.read(&mut buf) {
             Ok(1..) if self.passed < MOST_REST => self.passed = self.passed.saturating_add(CHUNK),
@@ -289,9 +310,10 @@ impl<T: Stream> Peer<T> {
         }
     }
 
-    /// Does what it can do now without waiting. A long request isn't read on where there is no room
-    /// for more of it. Unless it breaks off, what came of its request grows by what its own stream
-    /// gave; unless it is lost, none of its response is left out and none leaves twice.
+    /// Does what it can do now without waiting, and stays one that came by its door. A long request
+    /// isn't read on where there is no room for more of it. Unless it breaks off, what came of its
+    /// request grows by what its own stream gave; unless it is lost, none of its response is left
+    /// out and none leaves twice.
     #[tactic(auto, using(crate::proofs::Same::gains_nothing, crate::proofs::Same::keeps_same))]
     pub(crate) fn advance<F: Framing>(
         &mut self,
@@ -300,6 +322,7 @@ impl<T: Stream> Peer<T> {
         patience: Duration,
         now: Duration,
     )
+        ensures door { self.new.door ≡ self.old.door }
         ensures came { self.old.phase ≡ Phase.Arriving
             → self.new.phase ≢ Phase.Waiting End.Broken
             → Gains (T.remaining self.old.stream) (T.remaining self.new.stream)

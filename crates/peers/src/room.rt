@@ -2,22 +2,20 @@
 ghost use Rattle.std.specs.Prelude.{◌≡◌, ◌+◌, ◌-◌, ◌^◌, min};
 
 use crate::arrival::Arrival;
+use crate::entrances::{Accepted, Entrances, Listeners};
 use crate::gathered::End;
-use crate::listener::{Entrance, Listener, PeerAddress};
+use crate::listener::PeerAddress;
 use crate::peer::{Framing, Peer, Phase};
 use crate::streams::PeerStream;
 use mio::{Events, Poll, Token};
 use std::alloc::Global;
-use std::io::{self, ErrorKind};
+use std::io;
 use std::net::Net;
 use std::rt::Clock;
 use std::time::Duration;
 
 // How many events are had of the system at once.
 const MOST_EVENTS: usize = 256;
-
-// The listener's token; the others are places.
-const LISTENER: usize = usize::MAX;
 
 // After how many milliseconds connections are looked at again that may not be read now.
 const PAUSE_MILLIS: u64 = 20;
@@ -55,9 +53,7 @@ pub struct Room<'q, Q> {
     limits: Limits,
     poll: Poll,
     events: Events,
-    entrance: Entrance,
-    // Whether the listener may have a connection now.
-    may_accept: bool,
+    entrances: Entrances,
     places: Vec<Option<Peer<PeerStream>>>,
 }
 
@@ -79,25 +75,23 @@ fn sooner(first: Option<Duration>, other: Duration) -> Option<Duration> {
 }
 
 impl<'q, Q: Clock> Room<'q, Q> {
-    /// A room for the connections of a listener, whose calls no longer wait.
+    /// A room for the connections of these listeners, whose calls no longer wait.
     pub fn open<N: Net>(
         net: &N,
         alloc: Global,
-        listener: Listener,
+        listeners: Listeners,
         timer: &'q Q,
         limits: Limits,
     ) -> io::Result<Room<'q, Q>> {
-        let mut entrance = Entrance::open(listener)?;
         let poll = Poll::new(net)?;
-        entrance.register(&poll, Token(LISTENER))?;
+        let entrances = Entrances::open(listeners, &poll)?;
         Ok(Room {
             alloc,
             timer,
             limits,
             poll,
             events: Events::with_capacity(alloc, MOST_EVENTS)?,
-            entrance,
-            may_accept: true,
+            entrances,
             places: empty_places(alloc, limits.peers)?,
         })
     }
@@ -189,7 +183,7 @@ impl<'q, Q: Clock> Room<'q, Q> {
 
     // How long the system may be waited for; None for as long as it takes.
     fn longest_wait(&self, now: Duration) -> Option<Duration> {
-        if 0 < self.limits.count && self.may_accept && self.free_place().is_some() {
+        if 0 < self.limits.count && self.entrances.may_accept() && self.free_place().is_some() {
             return Some(Duration::ZERO);
         }
         let has_room = self.has_room();
@@ -219,9 +213,10 @@ impl<'q, Q: Clock> Room<'q, Q> {
         self.poll.poll(&mut self.events, wait)?;
         for event in self.events.iter() {
             let Token(place) = event.token();
-            if place == LISTENER {
-                self.may_accept = true;
-            } else if let Some(Some(peer)) = self.places.get_mut(place) {
+            if self.entrances.is_told_of(place) {
+                continue;
+            }
+            if let Some(Some(peer)) = self.places.get_mut(place) {
                 peer.stirs = true;
             }
         }
@@ -272,18 +267,19 @@ impl<'q, Q: Clock> Room<'q, Q> {
         }
     }
 
-    // Accepts one connection at a place; false where there is none now.
+    // Accepts one connection at a place, by either door; false where there is none now.
     fn accept_at(&mut self, place: usize, now: Duration) -> io::Result<bool> {
-        let (mut stream, address) = match self.entrance.accept() {
-            Err(error) if error.kind() == ErrorKind::WouldBlock => {
-                self.may_accept = false;
-                return Ok(false);
-            }
-            accepted => accepted?,
+        let Some(accepted) = self.entrances.accept()? else {
+            return Ok(false);
         };
+        let Accepted {
+            mut stream,
+            address,
+            door,
+        } = accepted;
         stream.register(&self.poll, Token(place))?;
         if let Some(free) = self.places.get_mut(place) {
-            *free = Some(Peer::new(stream, address, Vec::new(self.alloc), now));
+            *free = Some(Peer::new(stream, address, door, Vec::new(self.alloc), now));
         }
         Ok(true)
     }
@@ -291,7 +287,7 @@ impl<'q, Q: Clock> Room<'q, Q> {
     // Accepts those that can be now, and makes room for the next where there is none.
     fn accept(&mut self, now: Duration) -> io::Result<()> {
         for _ in 0..self.limits.count {
-            if !self.may_accept {
+            if !self.entrances.may_accept() {
                 return Ok(());
             }
             let Some(place) = self.free_place() else {

@@ -1,8 +1,9 @@
 -- Hosts that are answered, each beside its nearest that isn't.
 use Rattle.std.proofs.Common.{◌≡◌, refl, codes, ℕ, List, [], ◌∷◌, true}
+use Rattle.std.specs.Borrow.{Bor}
 use Rattle.std.specs.Prelude.{Option, ◌==◌, is_none, option_map, unwrap_or}
 use Rattle.std.specs.List.{list_all}
-use Rattle.request_guard.specs.Doors.{barred_of, status_of}
+use Rattle.request_guard.specs.Doors.{barred_of, names_of, status_of}
 use Rattle.request_guard.specs.declared.barred.Barred.{Barred}
 
 -- how a GET to a host is barred, where these names are given
@@ -53,3 +54,23 @@ names_alike_are_misdirected = refl
 
 not_given_is_misdirected : list_all (λ host. status (barred_at [] host) == 421) given_hosts ≡ true
 not_given_is_misdirected = refl
+
+-- a server is given several texts
+abbrev at_once : {X : Type 0} → X → Bor X
+at_once x = record { ref_ptr = (0, 0); now = x }
+
+abbrev named_twice : Bor (List (Bor (List ℕ)))
+named_twice =
+    at_once (at_once (codes "whx12.house,dock") ∷ at_once [] ∷ at_once (codes "gate") ∷ [])
+
+all_texts_are_read : names_of named_twice
+    ≡ codes "whx12.house" ∷ codes "dock" ∷ [] ∷ codes "gate" ∷ []
+all_texts_are_read = refl
+
+their_names_are_answered : list_all (λ host. is_none (barred_at (names_of named_twice) host))
+    (codes "whx12.house:1" ∷ codes "Dock" ∷ codes "gate" ∷ []) ≡ true
+their_names_are_answered = refl
+
+nothing_between_them_is : list_all (λ host. status (barred_at (names_of named_twice) host) == 421)
+    (codes "whx12.house,dock" ∷ [] ∷ codes ":80" ∷ codes "dockgate" ∷ []) ≡ true
+nothing_between_them_is = refl

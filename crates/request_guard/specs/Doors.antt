@@ -1,7 +1,7 @@
 -- Which requests are answered at all, as their heads say. What a browser sends for a page of
 -- another origin, or for a name that was made to lead here, is barred (RFC 9110, sections 7.2 and
 -- 15.5.20; RFC 6454; the Fetch standard; Fetch Metadata Request Headers).
-use Rattle.std.specs.Prelude.{ℕ, Bool, true, false, not, ◌&&◌, ◌||◌, nat_lt, nat_le, ◌==◌, List, [], ◌∷◌, length, map, take, drop, reverse, if◌then◌else◌, Option, Some, None, is_some, codes, bytes_eq, slice_get}
+use Rattle.std.specs.Prelude.{ℕ, Bool, true, false, not, ◌&&◌, ◌||◌, nat_lt, nat_le, ◌==◌, List, [], ◌∷◌, length, map, take, drop, reverse, flat_map, if◌then◌else◌, Option, Some, None, is_some, codes, bytes_eq, slice_get}
 use Rattle.std.specs.Borrow.{Bor}
 use Rattle.std.specs.Char.{to_ascii_lowercase}
 use Rattle.std.specs.List.{list_all, list_any, position_or_len, slice_split}
@@ -69,12 +69,15 @@ is_ipv6_byte b = is_digit b || (is_between 65 70 b || (is_between 97 102 b || (b
 abbrev pub is_ipv6 : List ℕ → Bool
 is_ipv6 text = list_all is_ipv6_byte text && list_any (λ b. b == 58) text
 
--- the names that a server is given, with a comma between any two
-abbrev pub names_of : Option (Bor (List ℕ)) → List (List ℕ)
-names_of None = []
-names_of (Some text) = slice_split (λ b. b == 44) text.now
+-- the names in a text, with a comma between any two
+abbrev pub names_in : List ℕ → List (List ℕ)
+names_in text = slice_split (λ b. b == 44) text
 
--- one of the names that are given; what is empty between two commas is none
+-- the names that a server is given: those in each of these texts
+abbrev pub names_of : Bor (List (Bor (List ℕ))) → List (List ℕ)
+names_of texts = flat_map (λ text. names_in text.now) texts.now
+
+-- one of the names that are given; an empty text, or nothing between two commas, is none
 abbrev pub is_given : List (List ℕ) → List ℕ → Bool
 is_given hosts name = nat_lt 0 (length name) && list_any (same_letters name) hosts
 

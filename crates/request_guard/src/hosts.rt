@@ -1,5 +1,6 @@
 //! The hosts that are answered.
 ghost use Rattle.std.specs.Prelude.{◌≡◌, option_copied};
+ghost use Rattle.std.specs.List.{list_any};
 ghost use Rattle.request_guard.specs.Doors as meant;
 
 use crate::texts::{place_of, same_letters};
@@ -42,26 +43,28 @@ fn is_ipv6(text: &[u8]) -> bool
     is_spelled && text.contains(&b':')
 }
 
-fn is_given(names: Option<&str>, name: &[u8]) -> bool
-    ensures { result ≡ meant.is_given (meant.names_of names.entry) name.now }
+// Whether a name is in this text, which has one, or several with a comma between any two.
+fn is_in(text: &str, name: &[u8]) -> bool
+    ensures { result ≡ list_any (meant.same_letters name.now) (meant.names_in text.now) }
 {
-    let Some(names) = names else {
-        return false;
-    };
-    !name.is_empty()
-        && names
-            .as_bytes()
-            .split(|b| *b == b',')
-            .any(|given| same_letters(name, given))
+    text.as_bytes()
+        .split(|b| *b == b',')
+        .any(|given| same_letters(name, given))
 }
 
-fn is_own_name(names: Option<&str>, name: &[u8]) -> bool
+fn is_given(names: &[&str], name: &[u8]) -> bool
+    ensures { result ≡ meant.is_given (meant.names_of names.entry) name.now }
+{
+    !name.is_empty() && names.iter().any(|text| is_in(text, name))
+}
+
+fn is_own_name(names: &[&str], name: &[u8]) -> bool
     ensures { result ≡ meant.is_own_name (meant.names_of names.entry) name.now }
 {
     is_ipv4(name) || same_letters(name, b"localhost") || is_given(names, name)
 }
 
-fn is_named(names: Option<&str>, host: &[u8]) -> bool
+fn is_named(names: &[&str], host: &[u8]) -> bool
     ensures { result ≡ meant.is_named (meant.names_of names.entry) host.now }
 {
     let (name, port) = host.split_at(place_of(host, b':'));
@@ -89,7 +92,7 @@ fn is_bracketed(host: &[u8]) -> bool
 
 /// Whether the request was sent to a name that isn't answered. The names given are those that lead
 /// here beside `localhost` and addresses in digits, which no name server can lead elsewhere.
-pub(crate) fn is_misdirected(names: Option<&str>, host: Option<&[u8]>) -> bool
+pub(crate) fn is_misdirected(names: &[&str], host: Option<&[u8]>) -> bool
     ensures { result
         ≡ meant.is_misdirected (meant.names_of names.entry) (option_copied host.entry) }
 {

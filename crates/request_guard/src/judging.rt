@@ -15,9 +15,9 @@ use httparse::spans::HeaderSpan;
 /// The doors of a server: the names by which it may be asked.
 #[derive(Clone, Copy)]
 pub struct Doors<'n> {
-    /// The names that lead to it beside `localhost` and addresses in digits, with a comma between
-    /// any two, if there are any.
-    pub names: Option<&'n str>,
+    /// The names that lead to it beside `localhost` and addresses in digits, if there are any: each
+    /// text has one, or several with a comma between any two.
+    pub names: &'n [&'n str],
 }
 
 // The values of the fields that decide, where none of them is there twice.

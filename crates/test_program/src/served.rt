@@ -3,7 +3,7 @@ ghost use Rattle.std.specs.Prelude.{◌≡◌, false};
 
 use crate::left::open_book;
 use crate::ran::{Wanted, do_lines, run_lines};
-use crate::serving::{Nobody, Told, served, service_at, told_of};
+use crate::serving::{Nobody, ServedAt, Told, served, service_at, told_of};
 use crate::telling::{hold, tell};
 use crate::texts::{advice, answer, remove_book, text_of};
 use case_files::clerks::response_of;
@@ -96,7 +96,11 @@ fn serve_two<K: Keeper>(
     moment: Moment,
     two: &Two<'_>,
 ) -> Result<(), Fail> {
-    let told = served(rt, listener, book, moment, two.has_clock, false)?;
+    let at = ServedAt {
+        all: listener,
+        clerks: None,
+    };
+    let told = served(rt, at, book, moment, two.has_clock, false)?;
     if is_told(&told, two) {
         Ok(())
     } else {
@@ -211,34 +215,45 @@ const RECOUNT: &[u8] =
 
 const PICKING: &[u8] = b"GET /orders/ZZ-NONE/ORD1 HTTP/1.1\r\n\r\n";
 
-// Whether two clerks get these statuses, and the second this body.
+// Whether two clerks get these statuses, and the second this body: the second asks where clerks
+// alone do, if there is such an address.
 fn are_served<K: Keeper>(
     rt: &HostRuntime,
-    listener: &TcpListener,
+    at: ServedAt<'_, '_>,
     book: &mut K,
     moment: Moment,
     clerks: bool,
     (printed, body): (&[u8], &str),
 ) -> Result<bool, Fail> {
-    let _first = asked(rt, listener, RECOUNT)?;
-    let mut second = asked(rt, listener, PICKING)?;
-    let is_printed = served(rt, listener, book, moment, false, clerks)?
-        .out
-        .as_slice()
-        == printed;
+    let _first = asked(rt, at.all, RECOUNT)?;
+    let mut second = asked(rt, at.clerks.unwrap_or(at.all), PICKING)?;
+    let is_printed = served(rt, at, book, moment, false, clerks)?.out.as_slice() == printed;
     Ok(is_printed && heard(rt, &mut second)?.ends_with(body.as_bytes()))
 }
 
-// Only a server that is told to takes what clerks ask for.
+// Only a server that is told to takes what clerks ask for; where they have an address of their own,
+// there alone.
 fn clerks_are_served_where_it_is_said(rt: &HostRuntime) -> Result<(), Fail> {
     let moment = Moment::new(2025, 3, 4, 9, 15).ok_or("a moment")?;
     let mut book = enrolled(rt, moment)?;
     let listener = TcpListener::bind(rt, "127.0.0.1:0")?;
+    let own = TcpListener::bind(rt, "127.0.0.1:0")?;
+    let at_one = ServedAt {
+        all: &listener,
+        clerks: None,
+    };
+    let at_two = ServedAt {
+        all: &listener,
+        clerks: Some(&own),
+    };
     let without: (&[u8], &str) = (b"404\n404\n", "404 Not Found\n");
     let with: (&[u8], &str) = (b"422\n404\n", "20 UnknownDepositor\n");
-    let is_closed = are_served(rt, &listener, &mut book, moment, false, without)?;
+    let apart: (&[u8], &str) = (b"404\n404\n", "20 UnknownDepositor\n");
+    let is_closed = are_served(rt, at_one, &mut book, moment, false, without)?;
     hold(is_closed, "clerks are served by no other server")?;
-    let is_open = are_served(rt, &listener, &mut book, moment, true, with)?;
+    let is_apart = are_served(rt, at_two, &mut book, moment, false, apart)?;
+    hold(is_apart, "clerks are served at their own address alone")?;
+    let is_open = are_served(rt, at_one, &mut book, moment, true, with)?;
     hold(is_open, "clerks are served")
 }
 

@@ -1,7 +1,7 @@
 //! Two connections served, and what is told of them.
-use command_line::Endpoint;
+use command_line::{Endpoint, MOST_HOSTS};
 use commands::{Service, Verbosity, crowd_of, serve_on};
-use intake::{Caller, Callers, Listener};
+use intake::{Caller, Callers, Listener, Listeners};
 use peers::Arrival;
 use std::io;
 use std::net::TcpListener;
@@ -58,22 +58,44 @@ pub(crate) fn service_at(listener: &TcpListener, clerks: bool) -> io::Result<Ser
         patience: None,
         peers: None,
         clerks,
-        hosts: None,
+        hosts: [""; MOST_HOSTS],
         from: None,
+        clerks_at: None,
     })
+}
+
+// Where a server listens: for everybody, and for clerks alone.
+#[derive(Clone, Copy)]
+pub(crate) struct ServedAt<'a, 'b> {
+    pub(crate) all: &'a TcpListener,
+    pub(crate) clerks: Option<&'b TcpListener>,
+}
+
+impl ServedAt<'_, '_> {
+    // These listeners, for a crowd.
+    fn listeners(&self) -> io::Result<Listeners> {
+        let second = match self.clerks {
+            Some(listener) => Some(Listener::Tcp(listener.try_clone()?)),
+            None => None,
+        };
+        Ok(Listeners {
+            first: Listener::Tcp(self.all.try_clone()?),
+            second,
+        })
+    }
 }
 
 // Serves two connections, and has each of them told.
 pub(crate) fn served<K: Keeper>(
     rt: &HostRuntime,
-    listener: &TcpListener,
+    at: ServedAt<'_, '_>,
     book: &mut K,
     moment: Moment,
     has_clock: bool,
     clerks: bool,
 ) -> Result<Told, Fail> {
-    let service = service_at(listener, clerks)?;
-    let mut crowd = crowd_of(rt, Listener::Tcp(listener.try_clone()?), &service)?;
+    let service = service_at(at.all, clerks)?;
+    let mut crowd = crowd_of(rt, at.listeners()?, &service)?;
     let told = told_of(rt, &mut crowd, &service, book, moment, has_clock)?;
     if crowd.finish() == 0 {
         Ok(told)

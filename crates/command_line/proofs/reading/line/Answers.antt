@@ -1,21 +1,18 @@
 use Rattle.std.proofs.Common.{◌≡◌, ap, sym, subst, ◌∙◌, map, true, false, Bor, List, ℕ, Option, None, Some, option_map, unwrap_or}
 use Rattle.std.proofs.lemmas.Result.{IfOk-weaker}
 use Rattle.clap.specs.Matches.{found_of}
-use Rattle.clap.specs.Takes.{takes}
 use Rattle.clap.specs.Walk.{Row, rows_of}
-use Rattle.clap.specs.Simple.{is_simple, subcommand_of}
 use Rattle.clap.specs.declared.parser.matches.ArgMatches.TheViews.{out-ArgMatches}
 use Rattle.command_line.specs.Asked.{Found, Says, stands_first}
 use Rattle.command_line.proofs.AskedLaws.{lacks_from}
-use Rattle.command_line.proofs.LineLaws.{simple_at, both_found}
+use Rattle.command_line.proofs.LineLaws.{both_found}
 use Rattle.command_line.proofs.reading.line.Goals as goal
 
 pub returns-clause-ok : goal.returns-clause-ok
 returns-clause-ok c =
-    let app_is = c.in_ok-parser.ensures in
+    let alike = c.in_ok-parser_of.ensures in
     let found = rows_of (found_of c.in-Some.values.now) in
-    let met = (c.in-Ok.ensures.matches (ap is_simple app_is ∙ simple_at c.args.place)).1
-    ∙ ap (λ a. subcommand_of a (map (λ (w : Bor (List ℕ)). w.now) c.args.words.now)) app_is in
+    let met = (c.in-Ok.ensures.matches alike.simple).1 ∙ alike.found in
     let named = both_found (out-ArgMatches c.in-Ok.matches).subcommand c.in-Some.name.now found c.in-Some.ensures.name c.in-Some.ensures.rows in
     IfOk-weaker c.asked.result _ _
     (λ asked h. record {
@@ -27,10 +24,9 @@ returns-clause-ok c =
 
 pub returns-clause-err : goal.returns-clause-err
 returns-clause-err c =
-    let app_is = c.in_ok-parser.ensures in
+    let alike = c.in_ok-parser_of.ensures in
     let found = rows_of (found_of c.in-Some.values.now) in
-    let met = (c.in-Ok.ensures.matches (ap is_simple app_is ∙ simple_at c.args.place)).1
-    ∙ ap (λ a. subcommand_of a (map (λ (w : Bor (List ℕ)). w.now) c.args.words.now)) app_is in
+    let met = (c.in-Ok.ensures.matches alike.simple).1 ∙ alike.found in
     let named = both_found (out-ArgMatches c.in-Ok.matches).subcommand c.in-Some.name.now found c.in-Some.ensures.name c.in-Some.ensures.rows in
     lacks_from c.asked.result c.asked.ensures.err (λ q.
     let same : q.2.found ≡ (c.in-Some.name.now, found) = ap (λ (o : Option Found). unwrap_or o q.2.found) (sym q.2.named ∙ (sym met ∙ named)) in
@@ -38,16 +34,15 @@ returns-clause-err c =
 
 pub returns-in-Err-clause-err : goal.returns-in-Err-clause-err
 returns-in-Err-clause-err c = λ q.
-    let app_is = c.in_ok-parser.ensures in
-    let taken = ap (λ a. takes a (map (λ (w : Bor (List ℕ)). w.now) c.args.words.now)) app_is ∙ q.0 in
+    let alike = c.in_ok-parser_of.ensures in
+    let taken = alike.taken ∙ q.0 in
     c.refused.ensures (c.in-Err.ensures.passes taken)
 
 -- The line names no subcommand, and what can be read names one.
 pub returns-in_default-clause-err : goal.returns-in_default-clause-err
 returns-in_default-clause-err c = λ q.
-    let app_is = c.in_ok-parser.ensures in
-    let met = (c.in-Ok.ensures.matches (ap is_simple app_is ∙ simple_at c.args.place)).1
-    ∙ ap (λ a. subcommand_of a (map (λ (w : Bor (List ℕ)). w.now) c.args.words.now)) app_is in
+    let alike = c.in_ok-parser_of.ensures in
+    let met = (c.in-Ok.ensures.matches alike.simple).1 ∙ alike.found in
     let d : ◌≡◌ {A = Option (List Row)} None (Some q.2.found.1) =
     c.in_default.ensures.rows ∙ ap (option_map (λ (f : Found). f.1)) (met ∙ q.2.named) in absurd (cc)
 
@@ -55,10 +50,9 @@ returns-in_default-clause-err c = λ q.
 pub returns-then-not-stands_first-clause-err : goal.returns-then-not-stands_first-clause-err
 returns-then-not-stands_first-clause-err c = λ q.
     let words = map (λ (w : Bor (List ℕ)). w.now) c.args.words.now in
-    let app_is = c.in_ok-parser.ensures in
+    let alike = c.in_ok-parser_of.ensures in
     let found = rows_of (found_of c.in-Some.values.now) in
-    let met = (c.in-Ok.ensures.matches (ap is_simple app_is ∙ simple_at c.args.place)).1
-    ∙ ap (λ a. subcommand_of a (map (λ (w : Bor (List ℕ)). w.now) c.args.words.now)) app_is in
+    let met = (c.in-Ok.ensures.matches alike.simple).1 ∙ alike.found in
     let named = both_found (out-ArgMatches c.in-Ok.matches).subcommand c.in-Some.name.now found c.in-Some.ensures.name c.in-Some.ensures.rows in
     let same : q.2.found ≡ (c.in-Some.name.now, found) = ap (λ (o : Option Found). unwrap_or o q.2.found) (sym q.2.named ∙ (sym met ∙ named)) in
     let d : false ≡ true = sym c.if-not-stands_first.true ∙ c.stands_first.ensures

@@ -53,6 +53,7 @@ const TURNED_AWAY: &[(&str, &str)] = &[
 // Of the same advice, posted by a program, by a page of the server's own, and under its given name.
 const ANSWERED: &[&str] = &[
     "Host: Dock.Example:8080\r\n",
+    "Host: edi.example\r\n",
     "Host: 127.0.0.1:8080\r\nContent-Type: application/x-www-form-urlencoded\r\n",
     "Host: localhost\r\nOrigin: http://localhost\r\nSec-Fetch-Site: same-origin\r\nContent-Type: application/EDI-X12\r\n",
     "",
@@ -61,7 +62,7 @@ const ANSWERED: &[&str] = &[
 const WITH_DOORS: Access<'static> = Access {
     audience: Audience::Partners,
     doors: Some(Doors {
-        names: Some("edi.example,dock.example"),
+        names: &["first.example,edi.example", "dock.example"],
     }),
     from: None,
     tells_health: false,

@@ -7,7 +7,7 @@ use std::test::Fail;
 // It tells its health, also where it wants to know for whom other requests are asked.
 const TELLING: Access<'static> = Access {
     audience: Audience::Partners,
-    doors: Some(Doors { names: None }),
+    doors: Some(Doors { names: &[] }),
     from: Some("X-Depositor"),
     tells_health: true,
 };
