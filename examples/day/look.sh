@@ -28,7 +28,7 @@ copy() {
 # A program that runs each line of the day, as `whx12 LINE --book harbor.book` does.
 over_a_file() {
     echo '//! The lines of the day, one after another, over a book in a file.'
-    echo 'use running::command;'
+    echo 'use app::command;'
     echo 'use std::process::ExitCode;'
     echo 'fn main(rt: HostRuntime) -> ExitCode {'
     echo '    let (mut out, mut err) = (rt.stdout(), rt.stderr());'
