@@ -37,7 +37,7 @@ LAYERS = [
     Layer("SQLite", "the book in tables", 430, 290, 330,
           ["books book_tables -", "book_transactions book_statements seals"]),
     Layer("Edges", "what comes in, and what people see", 158, 98, 442,
-          ["commands command_line http_client -", "folders reports sheet_texts page",
+          ["commands command_line http_client unready", "folders reports sheet_texts page",
            "intake request_guard head_fields peers counted_io"]),
     Layer("The program", "one line of words, run", 158, 16, 286, ["app whx12"]),
     Layer("Tests", "", 456, 16, 428, ["case_files test_calls test_program"]),

@@ -1,5 +1,6 @@
 -- What a line asks of a server, where nothing is said of files.
-use Rattle.std.proofs.Common.{◌⊎◌, ℕ, List, Option, Ok, Err, OnOk}
+use Rattle.std.proofs.Common.{◌≡◌, ◌⊎◌, ℕ, List, Option, Ok, Err, OnOk, refl}
+use Rattle.std.specs.Borrow.{Bor}
 use Rattle.store.specs.Refusal.{Refusal}
 use Rattle.command_line.specs.declared.words.BookAct.TheVariants as act
 use Rattle.command_line.specs.declared.words.ClerkWords.{ClerkWords}
@@ -37,15 +38,15 @@ pub told_unasked : (reads : Reads) (t : Task) (r : Refusal) (e : Ending) → IsN
 told_unasked reads t r (Ok status) h = (r, no_errand_any reads t r h)
 told_unasked reads t r (Err stop) h = tt
 
--- whatever the line asks for
-pub asked_so : {W : Type 0} (contents : W → Option (List ℕ)) (t : Task) (before later : W) (e : Ending)
+-- whatever the line asks for, but for documents to be handed on
+pub asked_so : {W : Type 0} (contents : W → Option (List ℕ)) (t : Task) (before later : W) (e : Ending) → ((who dir : Bor (List ℕ)) → t ≡ task.HandOn who dir → ⊥)
     → IsAskedOf contents t before later e ⊎ IsNotAsked contents t before later e → IsServerAsked contents t before later e
-asked_so contents (task.Init who) before later e h = h
-asked_so contents (task.Act a at) before later e h = h
-asked_so contents (task.Try a at) before later e h = h
-asked_so contents (task.Show s) before later e h = h
-asked_so contents (task.HandOn who dir) before later e h = tt
-asked_so contents (task.Batch file) before later e h = h
-asked_so contents (task.Serve service at) before later e h = h
-asked_so contents (task.Verify seal) before later e h = h
-asked_so contents (task.Seal first) before later e h = h
+asked_so contents (task.Init who) before later e other h = h
+asked_so contents (task.Act a at) before later e other h = h
+asked_so contents (task.Try a at) before later e other h = h
+asked_so contents (task.Show s) before later e other h = h
+asked_so contents (task.HandOn who dir) before later e other h = absurd (other who dir refl)
+asked_so contents (task.Batch file) before later e other h = h
+asked_so contents (task.Serve service at) before later e other h = h
+asked_so contents (task.Verify seal) before later e other h = h
+asked_so contents (task.Seal first) before later e other h = h

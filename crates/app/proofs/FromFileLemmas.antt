@@ -41,7 +41,7 @@ module _ {S W : Type 0} (store : Ghosts S) (contents : W → Option (List ℕ)) 
   work_goes (job.Try ready moment) old new before later ending h = let same = h.0 in let goes = same.goes in goes.doubt
   work_goes (job.Look asked) old new before later ending h = let same = h.same in let goes = same.goes in goes.doubt
   work_goes (job.Seal first) old new before later ending h = let same = h.same in let goes = same.goes in goes.doubt
-  work_goes (job.HandOn who dir) old new before later ending h = let goes = h.goes in goes.doubt
+  work_goes (job.HandOn who dir) old new before later ending h = let same = h.0 in let goes = same.goes in goes.doubt
   work_goes (job.Play text) old new before later ending h = h.0.doubt
   work_goes (job.Listen service first has_clock file) old new before later ending h = h.0.doubt
   work_goes (job.Make house) old new before later ending h = subst (λ (b : Opened S). doubt (state store old.tables.conn).is_clean ≤ doubt (state store b.tables.conn).is_clean) (sym h.0) (omega arith)

@@ -348,7 +348,7 @@ module _ {S W : Type 0} (store : Ghosts S) (contents : W → Option (List ℕ)) 
   work_grows (job.Try ready moment) e of h = still h.0
   work_grows (job.Look asked) e of h = still h.same
   work_grows (job.Seal first) e of h = still h.same
-  work_grows (job.HandOn who dir) e of h = still h
+  work_grows (job.HandOn who dir) e of h = still h.0
   work_grows (job.Play text) (Ok status) of h =
       leaves_served (standing_of store new) old.warehouse L (played_grows reads_any (standing_of store) contents old before _ new later _ status h.1.0 clean L u)
   work_grows (job.Play text) (Err stop) of h = stopped_grows reads_any (standing_of store) contents old before _ new later _ stop h.1.1 clean L u

@@ -47,7 +47,7 @@ work_of store contents (job.Change ready moment) old new before later e h = let 
 work_of store contents (job.Try ready moment) old new before later e h = let same = h.0 in let goes = same.goes in goes.warehouse
 work_of store contents (job.Look asked) old new before later e h = let same = h.same in let goes = same.goes in goes.warehouse
 work_of store contents (job.Seal first) old new before later e h = let same = h.same in let goes = same.goes in goes.warehouse
-work_of store contents (job.HandOn who dir) old new before later e h = let goes = h.goes in goes.warehouse
+work_of store contents (job.HandOn who dir) old new before later e h = let same = h.0 in let goes = same.goes in goes.warehouse
 work_of store contents (job.Play text) old new before later e h = let goes = h.0 in goes.warehouse
 work_of store contents (job.Listen service first has_clock file) old new before later e h = let goes = h.0 in goes.warehouse
 work_of store contents (job.Check noted) old new before later e h = subst (λ (b : Opened _). b.warehouse ≡ old.warehouse) (sym h.0) refl

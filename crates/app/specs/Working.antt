@@ -1,13 +1,15 @@
 -- Which job over a book in a file a line asks for, and what the job comes to (Checking: that of a
 -- check; Done: with the opening before it).
 use Rattle.std.specs.Prelude.{◌≡◌, ℕ, Bool, true, false, List, Option, Some, None, Ok, option_map, IfSome, IfOk, IfErr, OnOk, OnErr, string_bytes}
-use Rattle.definitions.specs.Header.{who_of}
+use Rattle.definitions.specs.Header.{Who, who_of}
 use Rattle.definitions.specs.Moments.{Moment}
+use Rattle.definitions.specs.Rows.{outbox_of}
 use Rattle.store.specs.Refusal.{Refusal}
 use Rattle.store.specs.Refusal.TheVariants.{BadText}
-use Rattle.store.specs.Standing.{Standing, GoesOn, IsUnchanged}
+use Rattle.store.specs.Standing.{Standing, GoesOn, IsUnchanged, OfKept}
 use Rattle.commands.specs.Acting.{Ending, IsPerformed}
 use Rattle.commands.specs.Files.{IsWithin, Reads, reads_any}
+use Rattle.commands.specs.HandingOn.{LeavesAll, finds_any, writes_any}
 use Rattle.commands.specs.Looking.{IsAskedFor, IsLook, is_readable}
 use Rattle.commands.specs.Playing.{HasPlayed, HasStopped, asking}
 use Rattle.commands.specs.Readying.{IsMadeReady, IsUnready}
@@ -78,6 +80,14 @@ IsService standing service first has_clock old new ending =
     (λ start. HasServedUpTo standing (access_of service) has_clock first start new
     (count_of service.count)))
 
+-- Each document that went out to a depositor was handed on to a folder, of which nothing is said,
+-- and what became of it told.
+abbrev pub IsHandedOn : Standing → Standing → Who → List ℕ → Option (List ℕ) → Option (List ℕ)
+    → Ending → Type 0
+IsHandedOn old new who dir before later ending = OfKept old new (λ L. IfOk ending
+    (λ status. LeavesAll finds_any reads_any writes_any dir (outbox_of old.warehouse L who)
+    (before, Done) (later, status)))
+
 -- What a job comes to over a book: what was made ready was done or tried at its moment, what was asked
 -- for was shown, a text was played, a server served. Where the job is to make the book or to check it,
 -- nothing more is done.
@@ -98,6 +108,8 @@ IsWork standing contents old before (job.Seal first) new later ending =
     ending
 IsWork standing contents old before (job.HandOn who dir) new later ending =
     IsUnchanged (standing old) (standing new)
+    × IsHandedOn (standing old) (standing new) who dir.now (contents before) (contents later)
+    ending
 IsWork standing contents old before (job.Play text) new later ending =
     GoesOn (standing old) (standing new)
     × IsBatchPlayed standing contents (string_bytes text) old before new later ending

@@ -4,6 +4,7 @@ ghost use Rattle.std.specs.Prelude.{◌≡◌, false, Some, IfErr, IfOk, option_
 ghost use Rattle.seals.specs.Noted as meant;
 ghost use Rattle.store.specs.Standing.{IsUnchanged};
 ghost use Rattle.books.specs.Opening.{IsHandedBack, IsOpened};
+ghost use Rattle.commands.specs.LineStops.{IfLineRefused};
 ghost use Rattle.app.specs.Done.{IsBegun, IsJobDone, IsJobStopped, IsNotBegun, StaysAs};
 ghost use Rattle.app.specs.Working.{IsJobFor, IsNoJobFor, IsWork};
 
@@ -12,9 +13,9 @@ use crate::missing_texts::tell_missing;
 use books::{Book, Tables};
 use command_line::{Service, Task};
 use commands::{
-    CommandError, ExitStatus, FileNames, Look, Printer, Ready, ServedFile, TimeSource, Verbosity,
-    about_missing, ask, hand_on, moment_for, perform, play_over, read_lines, ready_at, serve, show,
-    tell_reason, tell_seal, try_ready, usage,
+    CommandError, ExitStatus, FileNames, LineStop, Look, Printer, Ready, ServedFile, TimeSource,
+    Verbosity, about_missing, ask, hand_on, moment_for, perform, play_over, read_lines, ready_at,
+    serve, show, tell_reason, tell_seal, try_ready, usage,
 };
 use folders::FileSystem;
 use seals::{Beginning, Sealed, entries_in};
@@ -221,38 +222,38 @@ pub(crate) fn job_of<'a, R: FileSystem + FileNames + TimeSource + AllocGlobal>(
     rt: &R,
     file: &'a str,
     task: &Task<'a>,
-) -> Result<Result<Job<'a>, Refusal>, CommandError>
-    ensures job { IfOk result (λ made. IfOk made (IsJobFor (R.reads rt.now) task.now)) }
-    ensures none { IfOk result (λ made. IfErr made (IsNoJobFor (R.reads rt.now) task.now)) }
+) -> Result<Job<'a>, LineStop>
+    ensures job { IfOk result (IsJobFor (R.reads rt.now) task.now) }
+    ensures none { IfErr result (IfLineRefused (IsNoJobFor (R.reads rt.now) task.now)) }
 {
     match task {
         Task::Init { who } => match Who::new(who.as_bytes()) {
-            Some(who) => Ok(Ok(Job::Make(Warehouse::new(who)))),
-            None => Ok(Err(Refusal::BadText)),
+            Some(who) => Ok(Job::Make(Warehouse::new(who))),
+            None => Err(LineStop::Refused(Refusal::BadText)),
         },
-        Task::Act { act, at } => match ready_at(rt, act, *at)? {
-            Ok(made) => Ok(Ok(Job::Change(made.0, made.1))),
-            Err(refusal) => Ok(Err(refusal)),
-        },
-        Task::Try { act, at } => match ready_at(rt, act, *at)? {
-            Ok(made) => Ok(Ok(Job::Try(made.0, made.1))),
-            Err(refusal) => Ok(Err(refusal)),
-        },
+        Task::Act { act, at } => {
+            let made = ready_at(rt, act, *at)?;
+            Ok(Job::Change(made.0, made.1))
+        }
+        Task::Try { act, at } => {
+            let made = ready_at(rt, act, *at)?;
+            Ok(Job::Try(made.0, made.1))
+        }
         Task::Show(what) => match ask(what) {
-            Ok(asked) => Ok(Ok(Job::Look(asked))),
-            Err(refusal) => Ok(Err(refusal)),
+            Ok(asked) => Ok(Job::Look(asked)),
+            Err(refusal) => Err(LineStop::Refused(refusal)),
         },
-        Task::Batch { file } => Ok(Ok(Job::Play(read_lines(rt, file)?))),
+        Task::Batch { file } => Ok(Job::Play(read_lines(rt, file)?)),
         Task::HandOn { who, dir } => match Who::new(who.as_bytes()) {
-            Some(who) => Ok(Ok(Job::HandOn(who, *dir))),
-            None => Ok(Err(Refusal::BadText)),
+            Some(who) => Ok(Job::HandOn(who, *dir)),
+            None => Err(LineStop::Refused(Refusal::BadText)),
         },
-        Task::Verify { seal } => Ok(Ok(Job::Check(noted_in(rt.alloc(), *seal)?))),
-        Task::Seal { first } => Ok(Ok(Job::Seal(first_of(rt.alloc(), *first)?))),
+        Task::Verify { seal } => Ok(Job::Check(noted_in(rt.alloc(), *seal)?)),
+        Task::Seal { first } => Ok(Job::Seal(first_of(rt.alloc(), *first)?)),
         Task::Serve { service, at } => {
             let first = moment_for(rt, *at)?;
             let served = found(rt, file)?;
-            Ok(Ok(Job::Listen(*service, first, at.is_none(), served)))
+            Ok(Job::Listen(*service, first, at.is_none(), served))
         }
     }
 }

@@ -1,11 +1,12 @@
 //! What a line says, done by a running server.
 ghost use Rattle.std.specs.Prelude.{IfErr, IfOk};
 ghost use Rattle.http_client.specs.Carried.{IsCarriedByAny, IsHaltedByAny};
-ghost use Rattle.app.specs.Asking.{IsServerAsked};
+ghost use Rattle.http_client.specs.HandedOn.{IsHandedOnByAny};
+ghost use Rattle.app.specs.Asking.{IsHandingAsked, IsServerAsked};
 
 use crate::missing_texts::tell_missing;
 use command_line::{Endpoint, Show, Task};
-use commands::{CommandError, ExitStatus, Printer, Verbosity, tell_unready};
+use commands::{CommandError, ExitStatus, LineStop, Printer, Verbosity, tell_unready};
 use http_client::{
     Courier, Errand, HandOn, Listening, Network, carry_out, errand_of, hand_on_there,
     tell_reason_there,
@@ -13,21 +14,37 @@ use http_client::{
 use std::alloc::Global;
 use store::{Refusal, Who};
 
-// Hands on the documents that a running server has of a depositor.
+// Hands on the documents that a running server has of a depositor. Of what brings the answers, and
+// of the folder, nothing is said.
+fn hand_on_by<C: Courier, W: Printer, E: Printer>(
+    rt: &HostRuntime,
+    courier: &mut C,
+    asked: HandOn<'_>,
+    out: &mut W,
+    err: &mut E,
+) -> Result<ExitStatus, CommandError>
+    ensures { IfOk result
+        (IsHandedOnByAny asked.entry (W.contents out.old) (W.contents out.new)) }
+{
+    hand_on_there(rt, courier, asked, out, err)
+}
+
+// The same, of a server that is called; a depositor's word that can't be read is refused before.
 fn hand_on_from<W: Printer, E: Printer>(
     rt: &HostRuntime,
-    server: &Endpoint<'_>,
     task: &Task<'_>,
     asked: HandOn<'_>,
     verbosity: Verbosity,
     out: &mut W,
     err: &mut E,
-) -> Result<ExitStatus, CommandError> {
+) -> Result<ExitStatus, CommandError>
+    ensures { IsHandingAsked W.contents asked.entry out.old out.new result }
+{
     if Who::new(asked.who.as_bytes()).is_none() {
         return tell_unready(rt, task, Refusal::BadText, verbosity, err);
     }
-    let mut courier = Network::new(rt, *server);
-    hand_on_there(rt, &mut courier, server, asked, out, err)
+    let mut courier = Network::new(rt, asked.server);
+    hand_on_by(rt, &mut courier, asked, out, err)
 }
 
 // Tells why a server refused an errand. What can't be told is left out: the refusal stands.
@@ -101,13 +118,15 @@ pub fn run_over_server<W: Printer, E: Printer>(
 {
     if let Task::HandOn { who, dir } = task {
         let asked = HandOn {
+            server: *server,
             who: *who,
             dir: *dir,
         };
-        return hand_on_from(rt, server, task, asked, verbosity, out, err);
+        return hand_on_from(rt, task, asked, verbosity, out, err);
     }
-    match errand_of(rt, task)? {
+    match errand_of(rt, task) {
         Ok(errand) => carry(rt, server, &errand, verbosity, out, err),
-        Err(refusal) => tell_unready(rt, task, refusal, verbosity, err),
+        Err(LineStop::Refused(refusal)) => tell_unready(rt, task, refusal, verbosity, err),
+        Err(LineStop::Stopped(stop)) => Err(stop),
     }
 }

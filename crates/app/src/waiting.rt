@@ -13,8 +13,8 @@ use crate::from_file::{Ended, FilesLeft, run_from};
 use crate::over_file::{Job, job_of};
 use command_line::Task;
 use commands::{
-    CommandError, ExitStatus, Printer, Verbosity, about_book, about_missing, about_opening,
-    about_use, moment_for, tell_stop, tell_unready,
+    CommandError, ExitStatus, LineStop, Printer, Verbosity, about_book, about_missing,
+    about_opening, about_use, moment_for, tell_stop, tell_unready,
 };
 use sqlite::{FileFrom, Start};
 use sqlite_disk::Disk;
@@ -281,8 +281,10 @@ pub(crate) fn run_over_file<'a, S: Start, F: FnMut() -> S, W: Printer, E: Printe
         result.ending result.files }
 {
     match job_of(rt, line.file, line.task) {
-        Ok(Ok(job)) => do_job(rt, line, starts, job, verbosity, out, err),
-        Ok(Err(refusal)) => ended_before(tell_unready(rt, line.task, refusal, verbosity, err)),
-        Err(stop) => ended_before(Err(stop)),
+        Ok(job) => do_job(rt, line, starts, job, verbosity, out, err),
+        Err(LineStop::Refused(refusal)) => {
+            ended_before(tell_unready(rt, line.task, refusal, verbosity, err))
+        }
+        Err(LineStop::Stopped(stop)) => ended_before(Err(stop)),
     }
 }

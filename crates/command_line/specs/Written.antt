@@ -1,10 +1,13 @@
--- Moments and numbers as the words of a line write them.
-use Rattle.std.specs.Prelude.{ℕ, ◌+◌, ◌*◌, Bool, ◌&&◌, nat_lt, List, length, take, drop, if◌then◌else◌, ◌==◌, Some, None, codes, bytes_eq, Option}
+-- Moments, numbers and endpoints as the words of a line write them.
+use Rattle.std.specs.Prelude.{ℕ, ◌+◌, ◌*◌, Bool, ◌&&◌, nat_lt, List, ◌++◌, length, take, drop, if◌then◌else◌, ◌==◌, Some, None, codes, bytes_eq, Option}
 use Rattle.std.specs.List.{list_all}
+use Rattle.std.specs.Net.Text.{socket_text}
 use Rattle.definitions.specs.Bytes.{is_between, is_digit, value}
 use Rattle.definitions.specs.Limits.{most_entries}
 use Rattle.definitions.specs.Moments.{Moment, is_moment}
 use Rattle.command_line.specs.declared.numbers.TheConstants.{MOST_CONNECTIONS}
+use Rattle.command_line.specs.declared.words.Endpoint.{Endpoint}
+use Rattle.command_line.specs.declared.words.Endpoint.TheVariants.{Inet, Unix}
 
 -- the two bytes at a place, and the one
 abbrev pub pair_at : ℕ → List ℕ → List ℕ
@@ -63,3 +66,8 @@ wait_of text =
 -- the number of an entry that is written so, if one is
 abbrev pub number_of : List ℕ → Option ℕ
 number_of text = number_to most_entries text
+
+-- where a server listens
+abbrev pub endpoint_text : Endpoint → List ℕ
+endpoint_text (Inet address) = socket_text address
+endpoint_text (Unix path) = codes "unix:" ++ path.now

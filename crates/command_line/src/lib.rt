@@ -9,6 +9,7 @@ mod moments;
 mod numbers;
 mod reading;
 mod rosters;
+mod services;
 mod shows;
 mod subcommands;
 mod values;

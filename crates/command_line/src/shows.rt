@@ -19,7 +19,9 @@ pub(crate) fn stock<'a>(alloc: Global) -> Result<Command<'a>, AllocError>
         "stock",
         "Prints what a depositor has, a line for each item and lot",
         "whx12 stock WHO [--csv] (--book BOOK | --server ADDR)",
-        "Example: whx12 stock ZZ-ACME --book harbor.book\nExample: whx12 stock ZZ-ACME --csv --book harbor.book\nExample: whx12 stock ZZ-ACME --server 127.0.0.1:8080",
+        "Example: whx12 stock ZZ-ACME --book harbor.book\n\
+         Example: whx12 stock ZZ-ACME --csv --book harbor.book\n\
+         Example: whx12 stock ZZ-ACME --server 127.0.0.1:8080",
     );
     let command = with(
         command,
@@ -36,7 +38,11 @@ pub(crate) fn open<'a>(alloc: Global) -> Result<Command<'a>, AllocError>
         "open",
         "Lists what a depositor has open, a line for each advice and each order",
         "whx12 open WHO (--book BOOK | --server ADDR)",
-        "Example: whx12 open ZZ-ACME --book harbor.book\nExample: whx12 open ZZ-ACME --server 127.0.0.1:8080\n\nListed are the advices that aren't counted, with how many pieces were announced, and the orders that aren't picked, with how\nmany of their pieces are short: ordered, and not reserved.",
+        "Example: whx12 open ZZ-ACME --book harbor.book\n\
+         Example: whx12 open ZZ-ACME --server 127.0.0.1:8080\n\n\
+         Listed are the advices that aren't counted, with how many pieces were announced, and \
+         the orders that aren't picked, with how\n\
+         many of their pieces are short: ordered, and not reserved.",
     );
     with_at(alloc, command)
 }
@@ -56,7 +62,10 @@ pub(crate) fn advices<'a>(alloc: Global) -> Result<Command<'a>, AllocError>
         "advices",
         "Prints the receiving sheet of an open advice",
         "whx12 advices WHO SHIPMENT [--csv] (--book BOOK | --server ADDR)",
-        "Example: whx12 advices ZZ-ACME SHP1 --book harbor.book\nExample: whx12 advices ZZ-ACME SHP1 --csv --book harbor.book > count.csv\n\nA line for each item and lot that was announced, with room to write what came. As CSV it is the sheet that `count` takes.",
+        "Example: whx12 advices ZZ-ACME SHP1 --book harbor.book\n\
+         Example: whx12 advices ZZ-ACME SHP1 --csv --book harbor.book > count.csv\n\n\
+         A line for each item and lot that was announced, with room to write what came. As CSV \
+         it is the sheet that `count` takes.",
     );
     let command = with(command, shipment(alloc));
     let command = with(command, csv(alloc));
@@ -71,7 +80,10 @@ pub(crate) fn orders<'a>(alloc: Global) -> Result<Command<'a>, AllocError>
         "orders",
         "Prints the picking sheet of an open order",
         "whx12 orders WHO ORDER [--csv] (--book BOOK | --server ADDR)",
-        "Example: whx12 orders ZZ-ACME ORD1 --book harbor.book\nExample: whx12 orders ZZ-ACME ORD1 --csv --book harbor.book > pick.csv\nExample: whx12 orders ZZ-ACME ORD1 --server 127.0.0.1:8080\n\nAs CSV it is the sheet that `pick` takes: what is reserved of each lot.",
+        "Example: whx12 orders ZZ-ACME ORD1 --book harbor.book\n\
+         Example: whx12 orders ZZ-ACME ORD1 --csv --book harbor.book > pick.csv\n\
+         Example: whx12 orders ZZ-ACME ORD1 --server 127.0.0.1:8080\n\n\
+         As CSV it is the sheet that `pick` takes: what is reserved of each lot.",
     );
     let command = with(command, order(alloc));
     let command = with(command, csv(alloc));
@@ -86,7 +98,12 @@ pub(crate) fn outbox<'a>(alloc: Global) -> Result<Command<'a>, AllocError>
         "outbox",
         "Lists what went out to a depositor, or prints one of those texts again",
         "whx12 outbox WHO [--number N | --into DIR] (--book BOOK | --server ADDR)",
-        "Example: whx12 outbox ZZ-ACME --book harbor.book\nExample: whx12 outbox ZZ-ACME --number 4 --book harbor.book\nExample: whx12 outbox ZZ-ACME --into out --book harbor.book\nExample: whx12 outbox ZZ-ACME --server 127.0.0.1:8080\n\nIn the list ANS is an answer; of a document it says whether the depositor took it: open, accepted or refused.",
+        "Example: whx12 outbox ZZ-ACME --book harbor.book\n\
+         Example: whx12 outbox ZZ-ACME --number 4 --book harbor.book\n\
+         Example: whx12 outbox ZZ-ACME --into out --book harbor.book\n\
+         Example: whx12 outbox ZZ-ACME --server 127.0.0.1:8080\n\n\
+         In the list ANS is an answer; of a document it says whether the depositor took it: \
+         open, accepted or refused.",
     );
     let command = with(
         command,
@@ -117,7 +134,10 @@ pub(crate) fn depositors<'a>(alloc: Global) -> Result<Command<'a>, AllocError>
         "depositors",
         "Lists who is enrolled, a line for each depositor",
         "whx12 depositors (--book BOOK | --server ADDR)",
-        "Example: whx12 depositors --book harbor.book\nExample: whx12 depositors --server 127.0.0.1:8080\n\nThey stand in the order in which they were enrolled, each as a command takes it: its qualifier, a hyphen and its id.",
+        "Example: whx12 depositors --book harbor.book\n\
+         Example: whx12 depositors --server 127.0.0.1:8080\n\n\
+         They stand in the order in which they were enrolled, each as a command takes it: its \
+         qualifier, a hyphen and its id.",
         at(alloc),
     )
 }

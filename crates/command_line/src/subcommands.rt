@@ -1,14 +1,15 @@
 //! What may stand in a line of words: the subcommands, and the help that each shows. Those that
-//! only look stand in shows.rt.
-ghost use Rattle.std.specs.Prelude.{◌≡◌, ◌∷◌, IfOk, true, [], codes};
+//! only look stand in shows.rt, and the server's in services.rt.
+ghost use Rattle.std.specs.Prelude.{◌≡◌, IfOk, true};
 ghost use Rattle.clap.specs.Simple.{App, app_of};
 ghost use Rattle.command_line.specs.Lines as meant;
 ghost use Rattle.command_line.specs.Parsers.{IsCommand};
 
 use crate::arguments::{
-    at, described, flag, join, join_at, join_either_at, of_clerk, of_depositor, option, order,
-    repeated, shipment, subcommand, value, wanted, with, with_at, with_sheet, with_try,
+    described, join, join_at, join_either_at, of_clerk, of_depositor, option, order, shipment,
+    subcommand, value, with, with_at, with_sheet, with_try,
 };
+use crate::services::serve;
 use crate::shows::with_shows;
 use crate::words::Place;
 use clap::Command;
@@ -22,7 +23,15 @@ fn script<'a>(alloc: Global) -> Result<Command<'a>, AllocError>
         "script",
         "Runs the commands of a file, line by line, over a new book in memory",
         "whx12 script FILE",
-        "Example: whx12 script morning.txt\n\nThe first line makes the book, as: init ZZ-WHSE1. Each other line is one of\n  enrol   roster   send   take   count   pick   recount   stock   open   advices   orders   outbox   depositors\nwithout `whx12` and `--book`, and with single spaces between its words; empty lines are passed over. A line that is a name and --help stops the script and\nshows what that command wants. A refused command is told on standard error, and the script goes on; words that can't be\nread and faults stop it.",
+        "Example: whx12 script morning.txt\n\n\
+         The first line makes the book, as: init ZZ-WHSE1. Each other line is one of\n\
+         \x20 enrol   roster   send   take   count   pick   recount   stock   open   advices   \
+         orders   outbox   depositors\n\
+         without `whx12` and `--book`, and with single spaces between its words; empty lines are \
+         passed over. A line that is a name and --help stops the script and\n\
+         shows what that command wants. A refused command is told on standard error, and the \
+         script goes on; words that can't be\n\
+         read and faults stop it.",
         value(alloc, "file", "FILE", "The file with the commands"),
     )
 }
@@ -35,7 +44,13 @@ fn batch<'a>(alloc: Global) -> Result<Command<'a>, AllocError>
         "batch",
         "Runs the commands of a file, line by line, over the book, which is opened once",
         "whx12 batch FILE --book BOOK",
-        "Example: whx12 batch morning.txt --book harbor.book\n\nThe lines are those of a script, without `init`. Each command is in the book before the next one begins. A refused command is\ntold on standard error, and the next one follows; words that can't be read and faults stop the batch, and the number of their\nline is told. What was done before them stays done, and the file can be given again: what is known gets its first answer.",
+        "Example: whx12 batch morning.txt --book harbor.book\n\n\
+         The lines are those of a script, without `init`. Each command is in the book before the \
+         next one begins. A refused command is\n\
+         told on standard error, and the next one follows; words that can't be read and faults \
+         stop the batch, and the number of their\n\
+         line is told. What was done before them stays done, and the file can be given again: \
+         what is known gets its first answer.",
         value(alloc, "file", "FILE", "The file with the commands"),
     )
 }
@@ -80,7 +95,10 @@ pub(crate) fn roster<'a>(alloc: Global) -> Result<Command<'a>, AllocError>
         "roster",
         "Enrols the depositors of a list, and prints what became of each",
         "whx12 roster FILE --book BOOK [--at MOMENT]",
-        "Example: whx12 roster depositors.toml --book harbor.book\n\nThe file is TOML with the line\n  depositors = [\"ZZ-ACME\", \"ZZ-BOLTCO\"]\nA name in it that can't be read refuses the whole list, and nobody is enrolled.",
+        "Example: whx12 roster depositors.toml --book harbor.book\n\n\
+         The file is TOML with the line\n\
+         \x20 depositors = [\"ZZ-ACME\", \"ZZ-BOLTCO\"]\n\
+         A name in it that can't be read refuses the whole list, and nobody is enrolled.",
         value(alloc, "file", "FILE", "The file with the list"),
     );
     with_at(alloc, command)
@@ -94,7 +112,9 @@ pub(crate) fn send<'a>(alloc: Global) -> Result<Command<'a>, AllocError>
         "send",
         "Hands in an interchange as it came, and prints the answer to send back",
         "whx12 send FILE [--try] (--book BOOK [--at MOMENT] | --server ADDR)",
-        "Example: whx12 send advice.x12 --book harbor.book\nExample: whx12 send advice.x12 --server 127.0.0.1:8080\n\nThe same bytes sent again get the same answer, and nothing is taken twice.",
+        "Example: whx12 send advice.x12 --book harbor.book\n\
+         Example: whx12 send advice.x12 --server 127.0.0.1:8080\n\n\
+         The same bytes sent again get the same answer, and nothing is taken twice.",
         value(alloc, "file", "FILE", "The file with the interchange"),
     );
     with_try(alloc, command)
@@ -108,7 +128,10 @@ pub(crate) fn take<'a>(alloc: Global) -> Result<Command<'a>, AllocError>
         "take",
         "Hands in each file of a folder whose name ends .x12, and writes the answers beside them",
         "whx12 take DIR [--done DONE] --book BOOK [--at MOMENT]",
-        "Example: whx12 take inbox --book harbor.book\n\nThe answer to inbox/a.x12 is written to inbox/a.x12.ans. What became of each file is printed. Taking the folder again\nis safe: the same bytes get the same answer, and nothing is taken twice.",
+        "Example: whx12 take inbox --book harbor.book\n\n\
+         The answer to inbox/a.x12 is written to inbox/a.x12.ans. What became of each file is \
+         printed. Taking the folder again\n\
+         is safe: the same bytes get the same answer, and nothing is taken twice.",
         value(alloc, "dir", "DIR", "The folder with the interchanges"),
     );
     let command = with(
@@ -131,7 +154,13 @@ pub(crate) fn count<'a>(alloc: Global) -> Result<Command<'a>, AllocError>
         "count",
         "Tells what came in for an advice, closes it, and prints its receipt (944)",
         "whx12 count WHO TICKET SHIPMENT SHEET [--try] (--book BOOK [--at MOMENT] | --server ADDR)",
-        "Example: whx12 count ZZ-ACME CNT-0412 SHP1 count.csv --book harbor.book\nExample: whx12 count ZZ-ACME CNT-0412 SHP1 count.csv --server 127.0.0.1:8080\n\nwhere count.csv is\n  BOLT,LOT-7,90\n  NUT,LOT-2,0\nWhat was announced and isn't in the sheet is missing: an empty sheet closes the advice with nothing on hand.",
+        "Example: whx12 count ZZ-ACME CNT-0412 SHP1 count.csv --book harbor.book\n\
+         Example: whx12 count ZZ-ACME CNT-0412 SHP1 count.csv --server 127.0.0.1:8080\n\n\
+         where count.csv is\n\
+         \x20 BOLT,LOT-7,90\n\
+         \x20 NUT,LOT-2,0\n\
+         What was announced and isn't in the sheet is missing: an empty sheet closes the advice \
+         with nothing on hand.",
     );
     let command = with(command, shipment(alloc));
     with_sheet(alloc, command)
@@ -145,7 +174,12 @@ pub(crate) fn pick<'a>(alloc: Global) -> Result<Command<'a>, AllocError>
         "pick",
         "Tells what was picked for an order, closes it, and prints its shipping advice (945)",
         "whx12 pick WHO TICKET ORDER SHEET [--try] (--book BOOK [--at MOMENT] | --server ADDR)",
-        "Example: whx12 pick ZZ-ACME PCK-0231 ORD1 pick.csv --book harbor.book\nExample: whx12 pick ZZ-ACME PCK-0231 ORD1 pick.csv --server 127.0.0.1:8080\n\nwhere pick.csv is\n  BOLT,LOT-7,60\nNo more of a lot can be picked than the order has reserved. An empty file says that nothing was picked.",
+        "Example: whx12 pick ZZ-ACME PCK-0231 ORD1 pick.csv --book harbor.book\n\
+         Example: whx12 pick ZZ-ACME PCK-0231 ORD1 pick.csv --server 127.0.0.1:8080\n\n\
+         where pick.csv is\n\
+         \x20 BOLT,LOT-7,60\n\
+         No more of a lot can be picked than the order has reserved. An empty file says that \
+         nothing was picked.",
     );
     let command = with(command, order(alloc));
     with_sheet(alloc, command)
@@ -159,106 +193,13 @@ pub(crate) fn recount<'a>(alloc: Global) -> Result<Command<'a>, AllocError>
         "recount",
         "Sets what is on hand of each lot of the sheet, and prints the adjustment (947)",
         "whx12 recount WHO TICKET SHEET [--try] (--book BOOK [--at MOMENT] | --server ADDR)",
-        "Example: whx12 recount ZZ-ACME REC-0009 recount.csv --book harbor.book\nExample: whx12 recount ZZ-ACME REC-0009 recount.csv --server 127.0.0.1:8080\n\nwhere recount.csv is\n  BOLT,LOT-7,28\nAt least one line has to differ from what is on hand.",
+        "Example: whx12 recount ZZ-ACME REC-0009 recount.csv --book harbor.book\n\
+         Example: whx12 recount ZZ-ACME REC-0009 recount.csv --server 127.0.0.1:8080\n\n\
+         where recount.csv is\n\
+         \x20 BOLT,LOT-7,28\n\
+         At least one line has to differ from what is on hand.",
     );
     with_sheet(alloc, command)
-}
-
-// The subcommand `serve` as far as its words must be there.
-fn serve_wanted<'a>(alloc: Global) -> Result<Command<'a>, AllocError>
-    ensures { IfOk result (IsCommand (meant.subcommand (codes "serve")
-        (meant.wanted_rule (codes "listen") ∷ []))) }
-{
-    subcommand(
-        alloc,
-        "serve",
-        "Serves the book over HTTP: many connections at once, their requests one after the other",
-        "whx12 serve --listen ADDR [--count N] [--patience SECONDS] [--peers N] [--host NAME].. [--from FIELD] [--anyone] [--clerks] [--clerks-at ADDR] --book BOOK [--at MOMENT]",
-        "Example: whx12 serve --book harbor.book --listen 127.0.0.1:8080\n\nA depositor posts its interchanges to /x12. GET /stock/ZZ-ACME shows stock, /outbox/ZZ-ACME what went out. Printed is the\nstatus of each response, or: fault 44 Device. While it serves, no other command can open the book; where it\nhas --clerks, those with --server ask it instead.",
-        wanted(
-            alloc,
-            "listen",
-            "ADDR",
-            "The IP address and port to listen at, as 127.0.0.1:8080",
-        ),
-    )
-}
-
-fn serve<'a>(alloc: Global) -> Result<Command<'a>, AllocError>
-    ensures { IfOk result (IsCommand meant.serve_shape) }
-{
-    let command = serve_wanted(alloc);
-    let command = with(
-        command,
-        option(
-            alloc,
-            "count",
-            "N",
-            "How many connections are served, from 1 to 65535 [default: until it is stopped]",
-        ),
-    );
-    let command = with(
-        command,
-        option(
-            alloc,
-            "patience",
-            "SECONDS",
-            "How long a request is waited for, and its response [default: 30]",
-        ),
-    );
-    let command = with(
-        command,
-        option(
-            alloc,
-            "peers",
-            "N",
-            "How many connections are there at once; for one more the oldest idle one is closed [default: 256]",
-        ),
-    );
-    let command = with(
-        command,
-        repeated(
-            alloc,
-            "host",
-            "NAME",
-            "A name by which it is asked beside localhost and its address (may be given up to eight times)",
-        ),
-    );
-    let command = with(
-        command,
-        option(
-            alloc,
-            "from",
-            "FIELD",
-            "The field in which what stands in front says for which depositor it asks, as X-Depositor",
-        ),
-    );
-    let command = with(
-        command,
-        flag(
-            alloc,
-            "anyone",
-            "Listens at an address that other machines reach: whoever reaches it may post",
-        ),
-    );
-    let command = with(
-        command,
-        flag(
-            alloc,
-            "clerks",
-            "Takes counts, picks and recounts too, and shows picking sheets, what is open and who is enrolled, for commands with --server",
-        ),
-    );
-    let command = with(
-        command,
-        option(
-            alloc,
-            "clerks-at",
-            "ADDR",
-            "An address beside that of --listen whose requests are taken as clerks' are with --clerks, and want no --from",
-        ),
-    );
-    with_at(alloc, command)
 }
 
 fn verify<'a>(alloc: Global) -> Result<Command<'a>, AllocError>
@@ -269,7 +210,13 @@ fn verify<'a>(alloc: Global) -> Result<Command<'a>, AllocError>
         "verify",
         "Says whether every table of the book is what its register gives",
         "whx12 verify [--seal N:DIGITS] --book BOOK",
-        "Example: whx12 verify --book harbor.book\n\nThe command of each entry is given again to an empty book in memory, and every table is compared with that book's. Printed\nis: ok and the number of entries; a difference is: fault 43 NotThisBook. Nothing is written. Run it after a restore, before a\nyear is closed, and after a fault of the disk.",
+        "Example: whx12 verify --book harbor.book\n\n\
+         The command of each entry is given again to an empty book in memory, and every table is \
+         compared with that book's. Printed\n\
+         is: ok and the number of entries; a difference is: fault 43 NotThisBook. The book stays \
+         as it is; one of version 1 is carried\n\
+         over first, as by each command. Run it after a restore, before a\n\
+         year is closed, and after a fault of the disk.",
         option(
             alloc,
             "seal",
@@ -288,7 +235,12 @@ fn seal<'a>(alloc: Global) -> Result<Command<'a>, AllocError>
         "seal",
         "Tells the seal of the book: how many entries it has, and a digest over all of them",
         "whx12 seal [--first N] --book BOOK",
-        "Example: whx12 seal --book harbor.book\nExample: whx12 seal --first 46 --book harbor.book\n\nPrinted is N:DIGITS, a SHA-256 over the N entries. Note it elsewhere, as beside a backup: as long as seal --first N prints the\nsame, the book has these entries, unchanged; status 1 says that it has fewer. Nothing is written.",
+        "Example: whx12 seal --book harbor.book\n\
+         Example: whx12 seal --first 46 --book harbor.book\n\n\
+         Printed is N:DIGITS, a SHA-256 over the N entries. Note it elsewhere, as beside a \
+         backup: as long as seal --first N prints the\n\
+         same, the book has these entries, unchanged; status 1 says that it has fewer. Nothing \
+         is written.",
         option(
             alloc,
             "first",
@@ -340,7 +292,20 @@ pub(crate) fn top<'a>(alloc: Global) -> Command<'a>
         "whx12",
         "The book of a third-party warehouse that takes its orders as X12 interchanges",
         "whx12 COMMAND ..",
-        "The book:      init, enrol, roster, verify, seal\nInterchanges:  send, take, serve\nClerks:        orders, count, pick, recount\nLooking:       stock, open, outbox, depositors\nMany at once:  batch\nTrying out:    script\n\nExample: whx12 init ZZ-WHSE1 --book harbor.book\nExample: whx12 enrol ZZ-ACME --book harbor.book\nExample: whx12 send advice.x12 --book harbor.book\nExample: whx12 script morning.txt\n\n`whx12 help COMMAND` says what a command wants. The exit status is 0 where all was done, 1 where something was refused, 2 where words can't be read, 3 at a fault.\n\nWhat a refusal or a fault is about is told in a line of its own on a terminal, and elsewhere where one of the words is --explain.",
+        "The book:      init, enrol, roster, verify, seal\n\
+         Interchanges:  send, take, serve\n\
+         Clerks:        count, pick, recount\n\
+         Looking:       stock, open, advices, orders, outbox, depositors\n\
+         Many at once:  batch\n\
+         Trying out:    script\n\n\
+         Example: whx12 init ZZ-WHSE1 --book harbor.book\n\
+         Example: whx12 enrol ZZ-ACME --book harbor.book\n\
+         Example: whx12 send advice.x12 --book harbor.book\n\
+         Example: whx12 script morning.txt\n\n\
+         `whx12 help COMMAND` says what a command wants. The exit status is 0 where all was \
+         done, 1 where something was refused, 2 where words can't be read, 3 at a fault.\n\n\
+         What a refusal or a fault is about is told in a line of its own on a terminal, and \
+         elsewhere where one of the words is --explain.",
     )
     .no_binary_name(true)
     .subcommand_required(true)

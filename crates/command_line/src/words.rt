@@ -1,5 +1,6 @@
 //! What a line of words asks for.
-ghost use Rattle.std.specs.Prelude.{◌≡◌};
+ghost use Rattle.std.specs.Prelude.{◌≡◌, IfOk, string_bytes};
+ghost use Rattle.command_line.specs.Written.{endpoint_text};
 
 use definitions::SheetKind;
 use segments::Moment;
@@ -25,8 +26,10 @@ pub enum Endpoint<'a> {
 }
 
 impl Endpoint<'_> {
-    /// Its text, as a line says it.
-    pub fn text(&self, alloc: Global) -> Result<String, AllocError> {
+    /// Its text, as a line says it. The one error is want of memory.
+    pub fn text(&self, alloc: Global) -> Result<String, AllocError>
+        ensures { IfOk result (λ text. string_bytes text ≡ endpoint_text self.now) }
+    {
         match self {
             Endpoint::Inet(address) => address.to_string(alloc),
             Endpoint::Unix(path) => ["unix:", *path].concat(alloc),

@@ -4,6 +4,7 @@ pub mod Printing
 pub mod Telling
 pub mod Shown
 pub mod Stops
+pub mod LineStops
 pub mod Failures
 pub mod Clerks
 pub mod Acting

@@ -9,6 +9,7 @@ ghost use Rattle.store.specs.Standing.{GoesOn};
 ghost use Rattle.commands.specs.Acting.{IsHandedIn, IsPerformed, IsSaid, IsSaidOf};
 ghost use Rattle.commands.specs.Clock.{IsMinuteOf};
 ghost use Rattle.commands.specs.Failures.{HasFailedCall, IsDeviceBy, WasEitherRefused};
+ghost use Rattle.commands.specs.LineStops.{IfLineRefused, IfLineStopped};
 ghost use Rattle.commands.specs.Printing.{AppendsFront};
 ghost use Rattle.commands.specs.Readying.{IsMadeReady, IsUnready};
 ghost use Rattle.commands.specs.Stops.{HasDeviceFault, IsDeviceStop, IsUsageStop};
@@ -17,6 +18,7 @@ ghost use Rattle.commands.specs.Telling.{IsPrinted, printed_of, said_of};
 use crate::causes::about_file;
 use crate::clock::{TimeSource, moment_for};
 use crate::enrolments::{enrol_all, read_roster};
+use crate::line_stops::LineStop;
 use crate::printing::Printer;
 use crate::slips::{Slip, clerk, slip_of};
 use crate::takes::take;
@@ -55,36 +57,33 @@ pub enum Ready<'a> {
 fn make_ready<'a, R: FileSystem + AllocGlobal>(
     rt: &R,
     act: &BookAct<'a>,
-) -> Result<Result<Ready<'a>, Refusal>, CommandError>
-    ensures ready { IfOk result (λ made. IfOk made (IsMadeReady (R.reads rt.now) act.now)) }
-    ensures unready { IfOk result (λ made. IfErr made (IsUnready (R.reads rt.now) act.now)) }
-    ensures unread { IfErr result HasDeviceFault }
+) -> Result<Ready<'a>, LineStop>
+    ensures ready { IfOk result (IsMadeReady (R.reads rt.now) act.now) }
+    ensures unready { IfErr result (IfLineRefused (IsUnready (R.reads rt.now) act.now)) }
+    ensures unread { IfErr result (IfLineStopped HasDeviceFault) }
 {
     match act {
         BookAct::Enrol { who } => match Who::new(who.as_bytes()) {
-            Some(who) => Ok(Ok(Ready::Enrol(who))),
-            None => Ok(Err(Refusal::BadText)),
+            Some(who) => Ok(Ready::Enrol(who)),
+            None => Err(LineStop::Refused(Refusal::BadText)),
         },
         BookAct::Roster { file } => match read_roster(rt, file)? {
-            Some(partners) => Ok(Ok(Ready::Roster(partners))),
-            None => Ok(Err(Refusal::BadText)),
+            Some(partners) => Ok(Ready::Roster(partners)),
+            None => Err(LineStop::Refused(Refusal::BadText)),
         },
         BookAct::Send { file } => match read_interchange(rt, *file) {
-            Ok(bytes) => Ok(Ok(Ready::Send(bytes))),
-            Err(error) => Err(about_file(rt.alloc(), *file, &error)),
+            Ok(bytes) => Ok(Ready::Send(bytes)),
+            Err(error) => Err(LineStop::Stopped(about_file(rt.alloc(), *file, &error))),
         },
-        BookAct::Take { dir, done: None } => Ok(Ok(Ready::Take(*dir))),
+        BookAct::Take { dir, done: None } => Ok(Ready::Take(*dir)),
         BookAct::Take {
             dir,
             done: Some(done),
-        } => Ok(Ok(Ready::TakeInto(Inbox {
+        } => Ok(Ready::TakeInto(Inbox {
             dir: *dir,
             done: *done,
-        }))),
-        BookAct::Clerk(words) => match slip_of(rt, words)? {
-            Ok(slip) => Ok(Ok(Ready::Clerk(slip))),
-            Err(refusal) => Ok(Err(refusal)),
-        },
+        })),
+        BookAct::Clerk(words) => Ok(Ready::Clerk(slip_of(rt, words)?)),
     }
 }
 
@@ -94,20 +93,17 @@ pub fn ready_at<'a, R: FileSystem + TimeSource + AllocGlobal>(
     rt: &R,
     act: &BookAct<'a>,
     at: Option<Moment>,
-) -> Result<Result<(Ready<'a>, Moment), Refusal>, CommandError>
-    ensures ready { IfOk result
-        (λ made. IfOk made (λ m. IsMadeReady (R.reads rt.now) act.now m.0)) }
-    ensures unready { IfOk result (λ made. IfErr made (IsUnready (R.reads rt.now) act.now)) }
-    ensures moment { IfOk result (λ made. IfOk made (λ m. IfSome at (λ t. m.1 ≡ t))) }
-    ensures shown { IfNone at (IfOk result
-        (λ made. IfOk made (λ m. IsMinuteOf (R.shows rt.now) m.1))) }
-    ensures unread { IfErr result (λ stop. HasDeviceFault stop ⊎ IsUsageStop stop) }
+) -> Result<(Ready<'a>, Moment), LineStop>
+    ensures ready { IfOk result (λ made. IsMadeReady (R.reads rt.now) act.now made.0) }
+    ensures unready { IfErr result (IfLineRefused (IsUnready (R.reads rt.now) act.now)) }
+    ensures moment { IfOk result (λ made. IfSome at (λ t. made.1 ≡ t)) }
+    ensures shown { IfNone at (IfOk result (λ made. IsMinuteOf (R.shows rt.now) made.1)) }
+    ensures unread { IfErr result
+        (IfLineStopped (λ stop. HasDeviceFault stop ⊎ IsUsageStop stop)) }
 {
     let moment = moment_for(rt, at)?;
-    match make_ready(rt, act)? {
-        Ok(ready) => Ok(Ok((ready, moment))),
-        Err(refusal) => Ok(Err(refusal)),
-    }
+    let ready = make_ready(rt, act)?;
+    Ok((ready, moment))
 }
 
 /// Prints the text of a reply, and tells a refusal.

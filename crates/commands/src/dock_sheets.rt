@@ -4,26 +4,27 @@ ghost use Rattle.definitions.specs.History.{History};
 ghost use Rattle.definitions.specs.Need.{need_of_number};
 ghost use Rattle.reports.specs.Receiving.{need_of_shipment};
 ghost use Rattle.store.specs.Decided.{IsHeldPart};
+ghost use Rattle.unready.specs.Refused.{IfRefused};
 ghost use Rattle.commands.specs.Shown as meant;
 
 use reports::{pick_list, picking_csv, receiving_csv, receiving_list};
-use std::alloc::{AllocError, Global};
-use store::{Page, Refusal};
+use std::alloc::Global;
+use store::Page;
+use unready::Unready;
 
 /// The receiving sheet of an open advice. Refused are 22, an unknown advice, and 23, one that was
-/// counted. The outer error is want of memory.
+/// counted; else memory was wanting.
 pub(crate) fn receiving_text(
     alloc: Global,
     page: &Page,
     shipment: &[u8],
     is_csv: bool,
-) -> Result<Result<Vec<u8>, Refusal>, AllocError>
+) -> Result<Vec<u8>, Unready>
     ensures ok { IfOk result
-        (λ made. IfOk made (λ text. (h : History)
-        → IsHeldPart (need_of_shipment shipment.now) page.now h
-        → meant.receiving_text is_csv h.events shipment.now ≡ Ok text.items)) }
-    ensures err { IfOk result
-        (λ made. IfErr made (λ refusal. (h : History)
+        (λ text. (h : History) → IsHeldPart (need_of_shipment shipment.now) page.now h
+        → meant.receiving_text is_csv h.events shipment.now ≡ Ok text.items) }
+    ensures err { IfErr result
+        (IfRefused (λ refusal. (h : History)
         → IsHeldPart (need_of_shipment shipment.now) page.now h
         → meant.receiving_text is_csv h.events shipment.now ≡ Err refusal)) }
 {
@@ -35,19 +36,18 @@ pub(crate) fn receiving_text(
 }
 
 /// The picking sheet of an open order. Refused are 24, an unknown order, and 25, one that was
-/// picked. The outer error is want of memory.
+/// picked; else memory was wanting.
 pub(crate) fn picking_text(
     alloc: Global,
     page: &Page,
     number: &[u8],
     is_csv: bool,
-) -> Result<Result<Vec<u8>, Refusal>, AllocError>
+) -> Result<Vec<u8>, Unready>
     ensures ok { IfOk result
-        (λ made. IfOk made (λ text. (h : History)
-        → IsHeldPart (need_of_number number.now) page.now h
-        → meant.picking_text is_csv h.events number.now ≡ Ok text.items)) }
-    ensures err { IfOk result
-        (λ made. IfErr made (λ refusal. (h : History)
+        (λ text. (h : History) → IsHeldPart (need_of_number number.now) page.now h
+        → meant.picking_text is_csv h.events number.now ≡ Ok text.items) }
+    ensures err { IfErr result
+        (IfRefused (λ refusal. (h : History)
         → IsHeldPart (need_of_number number.now) page.now h
         → meant.picking_text is_csv h.events number.now ≡ Err refusal)) }
 {

@@ -12,6 +12,7 @@ mod endpoints;
 mod enrolments;
 mod files;
 mod handing_on;
+mod line_stops;
 mod printing;
 mod reasons;
 mod script;
@@ -34,7 +35,8 @@ pub use causes::{
 pub use clock::{TimeSource, moment_for};
 pub use command_line::Service;
 pub use files::read_lines;
-pub use handing_on::{hand_on, tell_left};
+pub use handing_on::{Document, hand_on, leave_telling};
+pub use line_stops::LineStop;
 pub use printing::{Printer, print};
 pub use reasons::{KeptPair, reason, tell_cause, tell_reason, tell_unready};
 pub use script::{play_over, run_script};

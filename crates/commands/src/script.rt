@@ -7,6 +7,7 @@ ghost use Rattle.commands.specs.Scripts.{CanMakeBook, IsMadeBy, IsScriptDone, Is
 
 use crate::clock::TimeSource;
 use crate::files::read_lines;
+use crate::line_stops::LineStop;
 use crate::printing::Printer;
 use crate::reasons::{tell_reason, tell_unready};
 use crate::slips::slip_of;
@@ -42,9 +43,10 @@ fn tell_why<R: FileSystem + AllocGlobal, K: Keeper, E: io::Write>(
     else {
         return Ok(());
     };
-    match slip_of(rt, clerk)? {
+    match slip_of(rt, clerk) {
         Ok(slip) => tell_reason(rt.alloc(), book, &slip, err),
-        Err(_) => Ok(()),
+        Err(LineStop::Refused(_)) => Ok(()),
+        Err(LineStop::Stopped(stop)) => Err(stop),
     }
 }
 

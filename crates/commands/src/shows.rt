@@ -20,7 +20,8 @@ use command_line::Show;
 use intake::owner;
 use reports::{depositor_list, need_of_advice, open_report, outbox_list, stock_text};
 use std::alloc::Global;
-use store::{Keeper, Need, Refusal, Who};
+use store::{Fault, Keeper, Need, Refusal, Who};
+use unready::Unready;
 
 /// What is to be shown, its words tested.
 #[derive(Clone, Copy)]
@@ -169,12 +170,13 @@ fn advice<K: Keeper, W: Printer, E: Printer>(
     let Some(page) = book.load(who, &need)? else {
         return tell_refusal(alloc, err, Refusal::UnknownDepositor);
     };
-    match receiving_text(alloc, &page, number.as_bytes(), is_csv)? {
+    match receiving_text(alloc, &page, number.as_bytes(), is_csv) {
         Ok(sheet) => {
             print(out, &sheet)?;
             Ok(ExitStatus::Done)
         }
-        Err(refusal) => tell_refusal(alloc, err, refusal),
+        Err(Unready::Refused(refusal)) => tell_refusal(alloc, err, refusal),
+        Err(Unready::OutOfMemory) => Err(CommandError::Fault(Fault::OutOfMemory)),
     }
 }
 
@@ -203,12 +205,13 @@ fn order<K: Keeper, W: Printer, E: Printer>(
     let Some(page) = book.load(who, &need)? else {
         return tell_refusal(alloc, err, Refusal::UnknownDepositor);
     };
-    match picking_text(alloc, &page, number.as_bytes(), is_csv)? {
+    match picking_text(alloc, &page, number.as_bytes(), is_csv) {
         Ok(sheet) => {
             print(out, &sheet)?;
             Ok(ExitStatus::Done)
         }
-        Err(refusal) => tell_refusal(alloc, err, refusal),
+        Err(Unready::Refused(refusal)) => tell_refusal(alloc, err, refusal),
+        Err(Unready::OutOfMemory) => Err(CommandError::Fault(Fault::OutOfMemory)),
     }
 }
 

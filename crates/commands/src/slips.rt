@@ -7,13 +7,16 @@ ghost use Rattle.definitions.specs.Header.{Who as Partner};
 ghost use Rattle.definitions.specs.Means.{Line};
 ghost use Rattle.sheet_texts.specs.Texts.{sheet_of_text};
 ghost use Rattle.store.specs.Asked.{asked};
+ghost use Rattle.unready.specs.Refused.{IfRefused};
 ghost use Rattle.commands.specs.Clerks as meant;
 ghost use Rattle.commands.specs.Clerks.{IsNoSlip, IsSheetRead, IsSlipOf, command_of, depositor_of, sheet_read};
 ghost use Rattle.commands.specs.Files.{reads_as};
+ghost use Rattle.commands.specs.LineStops.{IfLineRefused, IfLineStopped};
 ghost use Rattle.commands.specs.Stops.{HasDeviceFault};
 
 use crate::causes::about_file;
 use crate::files::MOST_SHEET;
+use crate::line_stops::LineStop;
 use crate::told::CommandError;
 use command_line::ClerkWords;
 use folders::FileSystem;
@@ -21,6 +24,7 @@ use intake::{act_of, depositor, read_first};
 use sheet_texts::sheet;
 use std::alloc::{AllocError, Global};
 use store::{Command, Goods, Refusal, Sheet, SheetKind, Who};
+use unready::Unready;
 
 /// What a clerk did, with its sheet: its command can be given.
 #[derive(Drop)]
@@ -83,25 +87,19 @@ fn long_reason(refusal: Refusal) -> Refusal
 // The sheet of a kind in what was read of a file, its first bytes up to one more than a sheet may
 // have, or why there is none (30 to 33). A longer file has too many lines in these already (33), or
 // can't be read (32).
-fn sheet_of(
-    alloc: Global,
-    kind: SheetKind,
-    text: &[u8],
-) -> Result<Result<Sheet, Refusal>, AllocError>
-    ensures ok { IfOk result
-        (λ made. IfOk made (λ sheet. sheet_read kind text.now ≡ Ok sheet)) }
-    ensures kind { IfOk result
-        (λ made. IfOk made (λ sheet. is_sheet Today kind sheet ≡ true)) }
-    ensures err { IfOk result
-        (λ made. IfErr made (λ refusal. sheet_read kind text.now ≡ Err refusal)) }
+fn sheet_of(alloc: Global, kind: SheetKind, text: &[u8]) -> Result<Sheet, Unready>
+    ensures ok { IfOk result (λ sheet. sheet_read kind text.now ≡ Ok sheet) }
+    ensures kind { IfOk result (λ sheet. is_sheet Today kind sheet ≡ true) }
+    ensures err { IfErr result (IfRefused (λ refusal. sheet_read kind text.now ≡ Err refusal)) }
 {
-    let made = sheet(alloc, kind, text)?;
+    let made = sheet(alloc, kind, text);
     if text.len() as u64 <= u64::from(MOST_SHEET) {
-        return Ok(made);
+        return made;
     }
     match made {
-        Ok(_) => Ok(Err(Refusal::BadText)),
-        Err(refusal) => Ok(Err(long_reason(refusal))),
+        Ok(_) => Err(Unready::Refused(Refusal::BadText)),
+        Err(Unready::Refused(refusal)) => Err(Unready::Refused(long_reason(refusal))),
+        Err(Unready::OutOfMemory) => Err(Unready::OutOfMemory),
     }
 }
 
@@ -112,24 +110,21 @@ fn slip_in<'a>(
     words: &ClerkWords<'a>,
     who: Who,
     text: Vec<u8>,
-) -> Result<Result<Slip<'a>, Refusal>, AllocError>
+) -> Result<Slip<'a>, Unready>
     requires { depositor_of words.now ≡ Some who }
 
-    ensures slip { IfOk result
-        (λ made. IfOk made (λ slip. IsSlipOf (reads_as text.items) words.now slip.who slip.words
-        slip.text.items slip.sheet)) }
-    ensures none { IfOk result
-        (λ made. IfErr made (λ refusal. sheet_read words.now.kind text.items ≡ Err refusal)) }
+    ensures slip { IfOk result (λ slip. IsSlipOf (reads_as text.items) words.now slip.who
+        slip.words slip.text.items slip.sheet) }
+    ensures none { IfErr result
+        (IfRefused (λ refusal. sheet_read words.now.kind text.items ≡ Err refusal)) }
 {
-    match sheet_of(alloc, words.kind, &text)? {
-        Ok(sheet) => Ok(Ok(Slip {
-            who,
-            words: *words,
-            text,
-            sheet,
-        })),
-        Err(refusal) => Ok(Err(refusal)),
-    }
+    let sheet = sheet_of(alloc, words.kind, &text)?;
+    Ok(Slip {
+        who,
+        words: *words,
+        text,
+        sheet,
+    })
 }
 
 /// What a clerk's words and the file with its sheet come to. Refused are 32, a word that can't be
@@ -138,55 +133,46 @@ fn slip_in<'a>(
 pub fn slip_of<'a, R: FileSystem + AllocGlobal>(
     rt: &R,
     words: &ClerkWords<'a>,
-) -> Result<Result<Slip<'a>, Refusal>, CommandError>
-    ensures slip { IfOk result
-        (λ made. IfOk made (λ slip. IsSlipOf (R.reads rt.now) words.now slip.who slip.words
-        slip.text.items slip.sheet)) }
-    ensures none { IfOk result (λ made. IfErr made (IsNoSlip (R.reads rt.now) words.now)) }
-    ensures unread { IfErr result HasDeviceFault }
+) -> Result<Slip<'a>, LineStop>
+    ensures slip { IfOk result (λ slip. IsSlipOf (R.reads rt.now) words.now slip.who slip.words
+        slip.text.items slip.sheet) }
+    ensures none { IfErr result (IfLineRefused (IsNoSlip (R.reads rt.now) words.now)) }
+    ensures unread { IfErr result (IfLineStopped HasDeviceFault) }
 {
     match read_slip(rt, words)? {
         Some(read) => Ok(slip_in(rt.alloc(), words, read.who, read.text)?),
-        None => Ok(Err(Refusal::BadText)),
+        None => Err(LineStop::Refused(Refusal::BadText)),
     }
 }
 
 // The text of a sheet of a kind, where it is one. Refused is what keeps it from being one (30 to
 // 33).
-fn tested(
-    alloc: Global,
-    kind: SheetKind,
-    text: Vec<u8>,
-) -> Result<Result<Vec<u8>, Refusal>, AllocError>
-    ensures same { IfOk result (λ made. IfOk made (λ given. given.items ≡ text.items)) }
+fn test_sheet(alloc: Global, kind: SheetKind, text: Vec<u8>) -> Result<Vec<u8>, Unready>
+    ensures same { IfOk result (λ given. given.items ≡ text.items) }
     ensures sheet { IfOk result
-        (λ made. IfOk made (λ given. (sheet : List Line) × (sheet_read kind given.items
-        ≡ Ok sheet))) }
-    ensures none { IfOk result
-        (λ made. IfErr made (λ refusal. sheet_read kind text.items ≡ Err refusal)) }
+        (λ given. (sheet : List Line) × (sheet_read kind given.items ≡ Ok sheet)) }
+    ensures none { IfErr result
+        (IfRefused (λ refusal. sheet_read kind text.items ≡ Err refusal)) }
 {
-    match sheet_of(alloc, kind, &text)? {
-        Ok(_) => Ok(Ok(text)),
-        Err(refusal) => Ok(Err(refusal)),
-    }
+    sheet_of(alloc, kind, &text)?;
+    Ok(text)
 }
 
 /// The text of a clerk's sheet, tested as `slip_of` tests it, for a server that reads it again.
 pub fn sheet_text_of<R: FileSystem + AllocGlobal>(
     rt: &R,
     words: &ClerkWords<'_>,
-) -> Result<Result<Vec<u8>, Refusal>, CommandError>
-    ensures from { IfOk result
-        (λ made. IfOk made (λ text. IsSheetRead (R.reads rt.now) words.now text.items)) }
-    ensures text { IfOk result (λ made. IfOk made (λ text. (who : Partner) × (sheet : List Line)
+) -> Result<Vec<u8>, LineStop>
+    ensures from { IfOk result (λ text. IsSheetRead (R.reads rt.now) words.now text.items) }
+    ensures text { IfOk result (λ text. (who : Partner) × (sheet : List Line)
         × (depositor_of words.now ≡ Some who)
-        × (sheet_read words.now.kind text.items ≡ Ok sheet))) }
-    ensures none { IfOk result (λ made. IfErr made (IsNoSlip (R.reads rt.now) words.now)) }
-    ensures unread { IfErr result HasDeviceFault }
+        × (sheet_read words.now.kind text.items ≡ Ok sheet)) }
+    ensures none { IfErr result (IfLineRefused (IsNoSlip (R.reads rt.now) words.now)) }
+    ensures unread { IfErr result (IfLineStopped HasDeviceFault) }
 {
     match read_slip(rt, words)? {
-        Some(Read { text, .. }) => Ok(tested(rt.alloc(), words.kind, text)?),
-        None => Ok(Err(Refusal::BadText)),
+        Some(Read { text, .. }) => Ok(test_sheet(rt.alloc(), words.kind, text)?),
+        None => Err(LineStop::Refused(Refusal::BadText)),
     }
 }
 
@@ -200,9 +186,10 @@ pub(crate) fn lines_in(
         → sheet_of_text Today words.now.kind text.now ≡ Ok sheet
         → IfOk result (λ found. option_map (λ lines. lines.items) found ≡ Some sheet) }
 {
-    match sheet(alloc, words.kind, text)? {
+    match sheet(alloc, words.kind, text) {
         Ok(sheet) => Ok(Some(sheet.lines(alloc)?)),
-        Err(_) => Ok(None),
+        Err(Unready::Refused(_)) => Ok(None),
+        Err(Unready::OutOfMemory) => Err(AllocError),
     }
 }
 

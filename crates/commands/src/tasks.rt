@@ -7,6 +7,7 @@ ghost use Rattle.commands.specs.Saying.{IsLineSaid, IsTaskSaid};
 
 use crate::acts::{perform, ready_at};
 use crate::clock::TimeSource;
+use crate::line_stops::LineStop;
 use crate::printing::Printer;
 use crate::reasons::tell_unready;
 use crate::shows::{ask, show};
@@ -41,9 +42,10 @@ fn change<
         result (Task.Act act.now at)) }
     ensures goes { GoesOn (K.standing book.old) (K.standing book.new) }
 {
-    match ready_at(rt, act, at)? {
+    match ready_at(rt, act, at) {
         Ok(made) => perform(rt, book, &made.0, made.1, verbosity, out, err),
-        Err(refusal) => tell_unready(rt, task, refusal, verbosity, err),
+        Err(LineStop::Refused(refusal)) => tell_unready(rt, task, refusal, verbosity, err),
+        Err(LineStop::Stopped(stop)) => Err(stop),
     }
 }
 
@@ -70,9 +72,10 @@ fn try_out_line<
         result (Task.Try act.now at)) }
     ensures goes { GoesOn (K.standing book.old) (K.standing book.new) }
 {
-    match ready_at(rt, act, at)? {
+    match ready_at(rt, act, at) {
         Ok(made) => try_ready(rt.alloc(), book, &made.0, made.1, out, err),
-        Err(refusal) => tell_unready(rt, task, refusal, verbosity, err),
+        Err(LineStop::Refused(refusal)) => tell_unready(rt, task, refusal, verbosity, err),
+        Err(LineStop::Stopped(stop)) => Err(stop),
     }
 }
 

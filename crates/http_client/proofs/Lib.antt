@@ -1,4 +1,7 @@
 mod AskingLaws
+mod ListLaws
+mod ListedLaws
+mod HandedLaws
 pub mod AnyNetwork
 pub mod HaltLaws
 mod ToldLaws

@@ -4,6 +4,8 @@ pub mod Paths
 pub mod Told
 pub mod Carried
 pub mod Asked
+pub mod Listed
+pub mod HandedOn
 pub mod Requests
 pub mod Fields
 pub mod Answers

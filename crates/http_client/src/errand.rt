@@ -2,10 +2,11 @@
 ghost use Rattle.std.specs.Prelude.{◌≡◌, ◌⊎◌, IfErr, IfOk};
 ghost use Rattle.commands.specs.Stops.{HasDeviceFault, IsUsageStop};
 ghost use Rattle.commands.specs.Files.{IsLonger, IsWithin};
+ghost use Rattle.commands.specs.LineStops.{IfLineRefused, IfLineStopped};
 ghost use Rattle.http_client.specs.Errands.{IsErrandFor, IsNoErrandFor};
 
 use command_line::{BookAct, ClerkWords, Show, Task};
-use commands::{CommandError, about_file, ask, sheet_text_of, usage};
+use commands::{LineStop, about_file, ask, sheet_text_of, usage};
 use definitions::MOST_BYTES;
 use folders::FileSystem;
 use intake::read_interchange;
@@ -29,20 +30,17 @@ pub enum Errand<'a> {
 
 // The interchange in a file, as a server takes it; refused where it is too long: a server refuses
 // it by its length, and may close before it is whole.
-fn interchange_in<R: FileSystem + AllocGlobal>(
-    rt: &R,
-    file: &str,
-) -> Result<Result<Vec<u8>, Refusal>, CommandError>
+fn interchange_in<R: FileSystem + AllocGlobal>(rt: &R, file: &str) -> Result<Vec<u8>, LineStop>
     ensures read { IfOk result
-        (λ made. IfOk made (λ bytes. IsWithin (R.reads rt.now) file.now MOST_BYTES bytes.items)) }
-    ensures longer { IfOk result (λ made. IfErr made (λ refusal. (refusal ≡ Refusal.Unreadable)
+        (λ bytes. IsWithin (R.reads rt.now) file.now MOST_BYTES bytes.items) }
+    ensures longer { IfErr result (IfLineRefused (λ refusal. (refusal ≡ Refusal.Unreadable)
         × IsLonger (R.reads rt.now) file.now MOST_BYTES)) }
-    ensures unread { IfErr result HasDeviceFault }
+    ensures unread { IfErr result (IfLineStopped HasDeviceFault) }
 {
     match read_interchange(rt, file) {
-        Ok(bytes) if bytes.len() > MOST_BYTES => Ok(Err(Refusal::Unreadable)),
-        Ok(bytes) => Ok(Ok(bytes)),
-        Err(error) => Err(about_file(rt.alloc(), file, &error)),
+        Ok(bytes) if bytes.len() > MOST_BYTES => Err(LineStop::Refused(Refusal::Unreadable)),
+        Ok(bytes) => Ok(bytes),
+        Err(error) => Err(LineStop::Stopped(about_file(rt.alloc(), file, &error))),
     }
 }
 
@@ -53,44 +51,33 @@ fn interchange_in<R: FileSystem + AllocGlobal>(
 pub fn errand_of<'a, R: FileSystem + AllocGlobal>(
     rt: &R,
     task: &Task<'a>,
-) -> Result<Result<Errand<'a>, Refusal>, CommandError>
-    ensures errand { IfOk result (λ made. IfOk made (IsErrandFor (R.reads rt.now) task.now)) }
-    ensures none { IfOk result (λ made. IfErr made (IsNoErrandFor (R.reads rt.now) task.now)) }
-    ensures unread { IfErr result (λ stop. HasDeviceFault stop ⊎ IsUsageStop stop) }
+) -> Result<Errand<'a>, LineStop>
+    ensures errand { IfOk result (IsErrandFor (R.reads rt.now) task.now) }
+    ensures none { IfErr result (IfLineRefused (IsNoErrandFor (R.reads rt.now) task.now)) }
+    ensures unread { IfErr result
+        (IfLineStopped (λ stop. HasDeviceFault stop ⊎ IsUsageStop stop)) }
 {
     match task {
         Task::Act {
             act: BookAct::Send { file },
             ..
-        } => match interchange_in(rt, *file)? {
-            Ok(bytes) => Ok(Ok(Errand::Send(bytes))),
-            Err(refusal) => Ok(Err(refusal)),
-        },
+        } => Ok(Errand::Send(interchange_in(rt, *file)?)),
         Task::Try {
             act: BookAct::Send { file },
             ..
-        } => match interchange_in(rt, *file)? {
-            Ok(bytes) => Ok(Ok(Errand::TrySend(bytes))),
-            Err(refusal) => Ok(Err(refusal)),
-        },
+        } => Ok(Errand::TrySend(interchange_in(rt, *file)?)),
         Task::Act {
             act: BookAct::Clerk(words),
             ..
-        } => match sheet_text_of(rt, words)? {
-            Ok(text) => Ok(Ok(Errand::Deed(*words, text))),
-            Err(refusal) => Ok(Err(refusal)),
-        },
+        } => Ok(Errand::Deed(*words, sheet_text_of(rt, words)?)),
         Task::Try {
             act: BookAct::Clerk(words),
             ..
-        } => match sheet_text_of(rt, words)? {
-            Ok(text) => Ok(Ok(Errand::TryDeed(*words, text))),
-            Err(refusal) => Ok(Err(refusal)),
-        },
+        } => Ok(Errand::TryDeed(*words, sheet_text_of(rt, words)?)),
         Task::Show(show) => match ask(show) {
-            Ok(_) => Ok(Ok(Errand::Look(*show))),
-            Err(refusal) => Ok(Err(refusal)),
+            Ok(_) => Ok(Errand::Look(*show)),
+            Err(refusal) => Err(LineStop::Refused(refusal)),
         },
-        _ => Err(usage(rt.alloc(), "no server takes this command\n")),
+        _ => Err(LineStop::Stopped(usage(rt.alloc(), "no server takes this command\n"))),
     }
 }

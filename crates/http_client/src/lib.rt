@@ -7,6 +7,7 @@ mod courier;
 mod errand;
 mod handing_on;
 pub mod laws;
+mod listed;
 mod paths;
 mod reasons;
 pub mod remote;

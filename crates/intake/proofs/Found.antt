@@ -7,14 +7,13 @@ use Rattle.definitions.specs.Response.{Response, found_for, bare, content_respon
 use Rattle.definitions.specs.Rows.{OutRow}
 use Rattle.definitions.specs.Decision.{standing}
 use Rattle.definitions.specs.History.{History}
-use Rattle.definitions.specs.Need.{Need, need_of_number}
+use Rattle.definitions.specs.Need.{Need}
 use Rattle.definitions.specs.declared.refusals.Refusal.{Refusal}
 use Rattle.definitions.specs.declared.refusals.Refusal.TheVariants.{UnknownDepositor}
 use Rattle.definitions.specs.Register.{Entry, own}
-use Rattle.definitions.specs.Reports.{pick_list}
 use Rattle.store.specs.Held.{IsHeld}
 use Rattle.intake.specs.Answers.{told_text}
-use Rattle.intake.specs.Calls.{line_response, form_by, form_response, order_response, picking_response, sheet_response}
+use Rattle.intake.specs.Calls.{line_response, form_by, form_response, sheet_response}
 use Rattle.intake.specs.Forms.{form_need, form_text}
 use Rattle.intake.specs.declared.calls.Form.{Form}
 
@@ -49,24 +48,7 @@ text_found who n w number query is plain = by (query w) refl
     by None e = rw (← is, e) refl
     by (Some rows) e = text_under number rows ∙ content_under n number rows plain ∙ sym (found who w query rows (content_response n) is (sym e))
 
--- the picking sheet of an order, by what a page holds of its depositor
-pub picked : (L : List Entry) (n : List ℕ) (w : Who) (o : Option Who) (need : Need) (p : _) (made : Result (List ℕ) Refusal) → Some w ≡ o → need ≡ need_of_number n
-    → IsHeld need (Some p) (standing (own L w)) → ((h : History) → IsHeld (need_of_number n) (Some p) (Some h) → pick_list h.events n ≡ made) → sheet_response made ≡ order_response L o n
-picked L n w o need p made name of held is = rw (← name) (by (standing (own L w)) held)
-  where
-    by : (h : Option History) → IsHeld need (Some p) h → sheet_response made ≡ picking_response n h
-    by None there = absurd there
-    by (Some h) there = ap sheet_response (sym (is h (subst (λ (k : Need). IsHeld k (Some p) (Some h)) of there)))
-
--- and of a stranger
-pub unheld : (L : List Entry) (n : List ℕ) (w : Who) (o : Option Who) (need : Need) → Some w ≡ o → IsHeld need None (standing (own L w)) → line_response 404 UnknownDepositor ≡ order_response L o n
-unheld L n w o need name held = rw (← name) (by (standing (own L w)) held)
-  where
-    by : (h : Option History) → IsHeld need None h → line_response 404 UnknownDepositor ≡ picking_response n h
-    by None there = refl
-    by (Some h) there = absurd there
-
--- a form, and that of a stranger, in the same way
+-- a form, by what a page holds of its depositor, and that of a stranger
 module _ (L : List Entry) (form : Form) (n : List ℕ) (w : Who) (o : Option Who) (need : Need) where
   pub formed : (p : _) (made : Result (List ℕ) Refusal) → Some w ≡ o → need ≡ form_need form n
       → IsHeld need (Some p) (standing (own L w)) → ((h : History) → IsHeld (form_need form n) (Some p) (Some h) → form_text form h.events n ≡ made) → sheet_response made ≡ form_response L form o n

@@ -17,7 +17,7 @@ use Rattle.definitions.specs.declared.refusals.Refusal.{Refusal}
 use Rattle.definitions.specs.declared.refusals.Refusal.TheVariants.{UnknownDepositor, TicketUsed, BadText}
 use Rattle.definitions.specs.Register.{Act, Count, Pick, Recount, Command, Clerk, Interchange, Entry, own}
 use Rattle.definitions.specs.Reply.{Reply, Accepted, Stored, Refused}
-use Rattle.definitions.specs.Reports.{pick_list, stock_csv}
+use Rattle.definitions.specs.Reports.{stock_csv}
 use Rattle.definitions.specs.Response.{Method, Get, Post, Response, with_body, plain_type, x12_type, refused_response, reply_response, found_for, not_allowed}
 use Rattle.definitions.specs.Rows.{stock_of}
 use Rattle.page.specs.Pages.{page_text, page_type}
@@ -25,7 +25,7 @@ use Rattle.reports.specs.Open.{open_report, depositor_list}
 use Rattle.sheet_texts.specs.Texts.{sheet_of_text}
 use Rattle.intake.specs.Forms.{form_text}
 use Rattle.intake.specs.declared.calls.Form.{Form}
-use Rattle.intake.specs.declared.calls.Form.TheVariants.{ReceivingList, ReceivingCsv, PickingCsv}
+use Rattle.intake.specs.declared.calls.Form.TheVariants.{PickList, ReceivingList, ReceivingCsv, PickingCsv}
 use Rattle.store.specs.Open.{OpenWork, open_of, enrolled}
 
 -- Paths.
@@ -178,7 +178,7 @@ abbrev pub deed_command : Result Command Response → Option Command
 deed_command (Ok c) = Some c
 deed_command (Err r) = None
 
--- Picking sheets.
+-- Forms.
 
 -- the depositor whose order or advice is named; none where a part of the path can't be read
 abbrev pub owner_of : List ℕ → List ℕ → Option Who
@@ -187,17 +187,6 @@ owner_of who number = if is_identifier 1 most_number number then who_of who else
 abbrev pub sheet_response : Result (List ℕ) Refusal → Response
 sheet_response (Ok text) = with_body 200 plain_type text
 sheet_response (Err r) = refused_response r []
-
--- by the history of the depositor; a stranger has none
-abbrev pub picking_response : List ℕ → Option History → Response
-picking_response number None = line_response 404 UnknownDepositor
-picking_response number (Some h) = sheet_response (pick_list h.events number)
-
-abbrev pub order_response : List Entry → Option Who → List ℕ → Response
-order_response L None number = line_response 404 BadText
-order_response L (Some w) number = picking_response number (standing (own L w))
-
--- Forms.
 
 -- by the history of the depositor; a stranger has none
 abbrev pub form_by : Form → List ℕ → Option History → Response
@@ -252,7 +241,8 @@ call_resp W L Post (ToTriedDeed kind who ticket number) body t =
 call_resp W L Post ToTriedExchange body t =
     reply_response (reply_to Today W L (Interchange body) t)
 call_resp W L Get ToPage body t = with_body 200 page_type page_text
-call_resp W L Get (ToOrder who number) body t = order_response L (owner_of who number) number
+call_resp W L Get (ToOrder who number) body t =
+    form_response L PickList (owner_of who number) number
 call_resp W L Get (ToForm form who number) body t =
     form_response L form (owner_of who number) number
 call_resp W L Get (ToExport who) body t =

@@ -23,6 +23,8 @@ pub(crate) struct Deed<'p> {
 /// A form that clerks take along and fill in.
 #[derive(Clone, Copy)]
 pub(crate) enum Form {
+    /// What is reserved for an order, to pick by.
+    PickList,
     /// What an advice announced, to write on.
     ReceivingList,
     /// The same as CSV, a sheet for its count.

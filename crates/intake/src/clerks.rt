@@ -16,7 +16,7 @@ use crate::heading::MethodKind;
 use crate::looking::{looked_at, not_called};
 use crate::replies::{of_deed, of_fault};
 use crate::response::Response;
-use crate::slips::{Slip, command, slip_of};
+use crate::slips::{Slip, SlipStop, command, slip_of};
 use crate::trying::{deed_tried, exchange_tried};
 use std::alloc::Global;
 use store::{Fault, Keeper, Moment, submit};
@@ -45,12 +45,10 @@ fn deed_at<K: Keeper>(
     ensures { IsCallServed (K.standing keeper.old) (K.standing keeper.new) moment
         Post (seen_deed deed.now) body.now (seen result) }
 {
-    let Ok(made) = slip_of(alloc, deed, body) else {
-        return of_fault(Fault::OutOfMemory);
-    };
-    match made {
+    match slip_of(alloc, deed, body) {
         Ok(slip) => performed(alloc, keeper, &slip, moment),
-        Err(response) => response,
+        Err(SlipStop::Answered(response)) => response,
+        Err(SlipStop::OutOfMemory) => of_fault(Fault::OutOfMemory),
     }
 }
 

@@ -1,5 +1,6 @@
 //! Many connections at once: none of them waits for the request of another, nor until another takes
 //! its response.
+ghost use Rattle.std.specs.Prelude.{◌≡◌, ◌≤◌, ◌+◌, ◌-◌, ◌^◌, min, IfOk};
 ghost use Rattle.httparse.specs.Spans.{IsRequestWithin};
 
 use crate::audience::{Access, Audience, access_by};
@@ -98,7 +99,10 @@ impl<'q, 'n, Q: Clock> Crowd<'q, 'n, Q> {
         count: u64,
         peers: Option<u16>,
         patience: &Patience<'q, Q>,
-    ) -> io::Result<Crowd<'q, 'n, Q>> {
+    ) -> io::Result<Crowd<'q, 'n, Q>>
+        ensures access { IfOk result (λ crowd. crowd.framing.access ≡ access.entry) }
+        ensures lost { IfOk result (λ crowd. crowd.lost ≡ 0) }
+    {
         let limits = Limits {
             count,
             peers: peers.unwrap_or(PEERS),
@@ -113,7 +117,10 @@ impl<'q, 'n, Q: Clock> Crowd<'q, 'n, Q> {
     }
 
     /// Waits until the responses have left. The result is how many didn't since they were told.
-    pub fn finish(mut self) -> u32 {
+    pub fn finish(mut self) -> u32
+        ensures lost { self.entry.lost ≤ result }
+        ensures most { result ≤ self.entry.lost + (2 ^ 16 - 1) }
+    {
         let framing = self.framing;
         for _ in 0..u16::MAX {
             if self.room.finish(&framing).is_none() {
@@ -126,7 +133,9 @@ impl<'q, 'n, Q: Clock> Crowd<'q, 'n, Q> {
 }
 
 impl<Q: Clock> Callers for Crowd<'_, '_, Q> {
-    fn next_caller(&mut self) -> Option<Caller> {
+    fn next_caller(&mut self) -> Option<Caller>
+        ensures lost { self.old.lost ≤ self.new.lost }
+    {
         let framing = self.framing;
         for _ in 0..u64::MAX {
             match self.room.next(&framing) {
@@ -138,7 +147,9 @@ impl<Q: Clock> Callers for Crowd<'_, '_, Q> {
         None
     }
 
-    fn let_leave(&mut self, arrival: Arrival, kept: Vec<u8>) {
+    fn let_leave(&mut self, arrival: Arrival, kept: Vec<u8>)
+        ensures lost { self.new.lost ≡ self.old.lost }
+    {
         self.room.let_leave(arrival, kept);
     }
 
@@ -146,11 +157,18 @@ impl<Q: Clock> Callers for Crowd<'_, '_, Q> {
         self.room.millis_of(arrival)
     }
 
-    fn admit_one_more(&mut self) {
+    fn admit_one_more(&mut self)
+        ensures count { self.new.room.limits.count
+            ≡ min (self.old.room.limits.count + 1) (2 ^ 64 - 1) }
+        ensures lost { self.new.lost ≡ self.old.lost }
+    {
         self.room.admit_one_more();
     }
 
-    fn take_lost(&mut self) -> u32 {
+    fn take_lost(&mut self) -> u32
+        ensures told { result ≡ self.old.lost }
+        ensures taken { self.new.lost ≡ 0 }
+    {
         let lost = self.lost;
         self.lost = 0;
         lost

@@ -6,14 +6,16 @@ ghost use Rattle.store.specs.Standing.{IsReading, OfKept};
 ghost use Rattle.intake.specs.Answers.{seen};
 ghost use Rattle.intake.specs.Calls.{form_response, owner_of};
 ghost use Rattle.intake.specs.Forms as meant;
+ghost use Rattle.unready.specs.Refused.{IfRefused};
 
 use crate::calls::Form;
 use crate::looking::owner;
 use crate::replies::{bad_part, refused, stranger, with_text};
 use crate::response::{MediaType, Response, Status};
-use reports::{need_of_advice, picking_csv, receiving_csv, receiving_list};
+use reports::{need_of_advice, pick_list, picking_csv, receiving_csv, receiving_list};
 use std::alloc::{AllocError, Global};
-use store::{Fault, Keeper, Need, Page, Refusal};
+use store::{Fault, Keeper, Need, Page};
+use unready::Unready;
 
 // What a form needs of its depositor's page.
 fn need_of(alloc: Global, form: Form, number: &[u8]) -> Result<Need, AllocError>
@@ -21,27 +23,21 @@ fn need_of(alloc: Global, form: Form, number: &[u8]) -> Result<Need, AllocError>
 {
     match form {
         Form::ReceivingList | Form::ReceivingCsv => need_of_advice(alloc, number),
-        Form::PickingCsv => Need::order(alloc, number),
+        Form::PickList | Form::PickingCsv => Need::order(alloc, number),
     }
 }
 
-// The text of a form, or why there is none. The outer error is want of memory.
-fn text_of(
-    alloc: Global,
-    page: &Page,
-    form: Form,
-    number: &[u8],
-) -> Result<Result<Vec<u8>, Refusal>, AllocError>
-    ensures ok { IfOk result
-        (λ made. IfOk made (λ text. (h : History)
+// The text of a form, or why there is none.
+fn text_of(alloc: Global, page: &Page, form: Form, number: &[u8]) -> Result<Vec<u8>, Unready>
+    ensures ok { IfOk result (λ text. (h : History)
         → IsHeldPart (meant.form_need form number.now) page.now h
-        → meant.form_text form h.events number.now ≡ Ok text.items)) }
-    ensures err { IfOk result
-        (λ made. IfErr made (λ refusal. (h : History)
+        → meant.form_text form h.events number.now ≡ Ok text.items) }
+    ensures err { IfErr result (IfRefused (λ refusal. (h : History)
         → IsHeldPart (meant.form_need form number.now) page.now h
         → meant.form_text form h.events number.now ≡ Err refusal)) }
 {
     match form {
+        Form::PickList => pick_list(alloc, page, number),
         Form::ReceivingList => receiving_list(alloc, page, number),
         Form::ReceivingCsv => receiving_csv(alloc, page, number),
         Form::PickingCsv => picking_csv(alloc, page, number),
@@ -71,8 +67,9 @@ pub(crate) fn form_at<K: Keeper>(
     let Some(page) = keeper.load(who, &need)? else {
         return Ok(stranger());
     };
-    match text_of(alloc, &page, form, number)? {
+    match text_of(alloc, &page, form, number) {
         Ok(text) => Ok(with_text(Status::Okay, MediaType::Plain, text)),
-        Err(refusal) => Ok(refused(refusal, Vec::new(alloc))),
+        Err(Unready::Refused(refusal)) => Ok(refused(refusal, Vec::new(alloc))),
+        Err(Unready::OutOfMemory) => Err(Fault::OutOfMemory),
     }
 }

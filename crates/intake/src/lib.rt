@@ -41,6 +41,7 @@ pub use listening::{serve_count, serve_within};
 pub use looking::owner;
 pub use patience::Patience;
 pub use peers::{Door, Listener, Listeners, PeerAddress};
+pub use queries::plain_number;
 pub use request_guard::Doors;
 pub use responding::respond;
 pub use response::{Allow, Body, MediaType, Response, Status};

@@ -9,19 +9,19 @@ ghost use Rattle.page.specs.Pages.{page_text, page_type};
 ghost use Rattle.store.specs.Standing.{IsReading, IsQuery, OfKept};
 ghost use Rattle.intake.specs.Answers.{seen};
 ghost use Rattle.intake.specs.Asking.{call_asks};
-ghost use Rattle.intake.specs.Calls.{owner_of, order_response, open_response, depositors_response, call_resp};
+ghost use Rattle.intake.specs.Calls.{owner_of, open_response, depositors_response, call_resp};
 ghost use Rattle.intake.specs.Targets.{seen_call};
 
-use crate::calls::Call;
+use crate::calls::{Call, Form};
 use crate::forms::form_at;
 use crate::queries::stock_at;
-use crate::replies::{bad_part, refused, stranger, with_text};
+use crate::replies::{bad_part, stranger, with_text};
 use crate::response::{Allow, MediaType, Response, Status, not_allowed_response};
 use definitions::MOST_NUMBER;
 use page::page;
-use reports::{depositor_list, open_report, pick_list};
+use reports::{depositor_list, open_report};
 use std::alloc::{AllocError, Global};
-use store::{Fault, Ident, Keeper, Need, Who};
+use store::{Fault, Ident, Keeper, Who};
 
 /// The depositor whose order or advice is named; None where one of the two texts can't be read.
 pub fn owner(who: &[u8], number: &[u8]) -> Option<Who>
@@ -29,34 +29,6 @@ pub fn owner(who: &[u8], number: &[u8]) -> Option<Who>
 {
     Ident::new(number, MOST_NUMBER)?;
     Who::new(who)
-}
-
-// The picking sheet of the order that a path names.
-fn order_at<K: Keeper>(
-    alloc: Global,
-    keeper: &mut K,
-    who: &[u8],
-    number: &[u8],
-) -> Result<Response, Fault>
-    ensures response { OfKept (K.standing keeper.old) (K.standing keeper.new)
-        (λ L. IfOk result (λ r. seen r ≡ order_response L (owner_of who.now number.now)
-        number.now)) }
-    ensures reading { IsReading (K.standing keeper.old) (K.standing keeper.new) result }
-    ensures shut { (K.standing keeper.old).shut ≡ true
-        → is_some (owner_of who.now number.now) ≡ true
-        → IsErrOf result Fault.Reopen ⊎ IsErrOf result Fault.OutOfMemory }
-{
-    let Some(who) = owner(who, number) else {
-        return Ok(bad_part());
-    };
-    let need = Need::order(alloc, number)?;
-    let Some(page) = keeper.load(who, &need)? else {
-        return Ok(stranger());
-    };
-    match pick_list(alloc, &page, number)? {
-        Ok(sheet) => Ok(with_text(Status::Okay, MediaType::Plain, sheet)),
-        Err(refusal) => Ok(refused(refusal, Vec::new(alloc))),
-    }
 }
 
 // What the depositor has open that a part of a path names.
@@ -117,7 +89,7 @@ pub(crate) fn looked_at<K: Keeper>(
             Ok(not_allowed_response(Allow::Post))
         }
         Call::Page => Ok(page_shown(alloc)?),
-        Call::Order(who, number) => order_at(alloc, keeper, who, number),
+        Call::Order(who, number) => form_at(alloc, keeper, Form::PickList, who, number),
         Call::Form(form, who, number) => form_at(alloc, keeper, form, who, number),
         Call::Export(who) => stock_at(alloc, keeper, who, true),
         Call::Open(who) => open_at(alloc, keeper, who),

@@ -66,8 +66,8 @@ fn outbox_at<K: Keeper>(alloc: Global, keeper: &mut K, who: &str) -> Result<Resp
     }
 }
 
-// The number that is written so: 1 to 6 digits without a leading zero.
-fn plain_number(text: &[u8]) -> Option<u32>
+/// The number that is written so: 1 to 6 digits without a leading zero; None of any other text.
+pub fn plain_number(text: &[u8]) -> Option<u32>
     ensures { result ≡ (if is_plain_number text.now then Some (value text.now) else None) }
 {
     if text.is_empty() || text.len() > 6 || text[0] == b'0' || !all_digits(text) {

@@ -5,15 +5,16 @@ ghost use Rattle.definitions.specs.Accepted.{is_command};
 ghost use Rattle.store.specs.Asked.{asked, act_of as asked_act};
 ghost use Rattle.intake.specs.Answers.{seen};
 ghost use Rattle.intake.specs.Calls as meant;
-ghost use Rattle.intake.specs.Slips.{command_of};
+ghost use Rattle.intake.specs.Slips.{IfAnswered, command_of};
 
 use crate::calls::Deed;
 use crate::replies::{bad_part, refused};
 use crate::response::Response;
 use definitions::{MOST_NUMBER, MOST_TICKET};
 use sheet_texts::sheet;
-use std::alloc::{AllocError, Global};
+use std::alloc::Global;
 use store::{Act, Command, Ident, Sheet, SheetKind, Who};
+use unready::Unready;
 
 /// What a clerk did, with its sheet: its command can be given.
 #[derive(Drop)]
@@ -22,6 +23,15 @@ pub(crate) struct Slip<'p> {
     pub(crate) deed: Deed<'p>,
     pub(crate) sheet: Sheet,
     pub(crate) ghost given: { IsTrue (is_command Today (command_of who deed sheet)) },
+}
+
+/// Why a deed and its sheet come to no slip.
+#[derive(Drop)]
+pub(crate) enum SlipStop {
+    /// They are refused, by this response.
+    Answered(Response),
+    /// A growth was refused.
+    OutOfMemory,
 }
 
 /// The depositor of what a clerk did, by its name, where that, the ticket and the number can be
@@ -37,31 +47,28 @@ pub fn depositor(kind: SheetKind, who: &[u8], ticket: &[u8], number: &[u8]) -> O
     Some(depositor)
 }
 
-/// What a deed and its sheet come to: a slip, or the response that refuses it. The outer error is
-/// want of memory.
-pub(crate) fn slip_of<'p>(
-    alloc: Global,
-    deed: &Deed<'p>,
-    text: &[u8],
-) -> Result<Result<Slip<'p>, Response>, AllocError>
-    ensures made { IfOk result
-        (λ made. IfOk made (λ slip. meant.deed_of deed.now.kind deed.now.who.now
-        deed.now.ticket.now deed.now.number.now text.now ≡ Ok
-        (command_of slip.who slip.deed slip.sheet))) }
-    ensures refused { IfOk result
-        (λ made. IfErr made (λ response. meant.deed_of deed.now.kind deed.now.who.now
-        deed.now.ticket.now deed.now.number.now text.now ≡ Err (seen response))) }
+/// What a deed and its sheet come to.
+pub(crate) fn slip_of<'p>(alloc: Global, deed: &Deed<'p>, text: &[u8]) -> Result<Slip<'p>, SlipStop>
+    ensures made { IfOk result (λ slip. meant.deed_of deed.now.kind deed.now.who.now
+        deed.now.ticket.now deed.now.number.now text.now
+        ≡ Ok (command_of slip.who slip.deed slip.sheet)) }
+    ensures refused { IfErr result (IfAnswered (λ response. meant.deed_of deed.now.kind
+        deed.now.who.now deed.now.ticket.now deed.now.number.now text.now
+        ≡ Err (seen response))) }
 {
     let Some(who) = depositor(deed.kind, deed.who, deed.ticket, deed.number) else {
-        return Ok(Err(bad_part()));
+        return Err(SlipStop::Answered(bad_part()));
     };
-    match sheet(alloc, deed.kind, text)? {
-        Ok(sheet) => Ok(Ok(Slip {
+    match sheet(alloc, deed.kind, text) {
+        Ok(sheet) => Ok(Slip {
             who,
             deed: *deed,
             sheet,
-        })),
-        Err(refusal) => Ok(Err(refused(refusal, Vec::new(alloc)))),
+        }),
+        Err(Unready::Refused(refusal)) => {
+            Err(SlipStop::Answered(refused(refusal, Vec::new(alloc))))
+        }
+        Err(Unready::OutOfMemory) => Err(SlipStop::OutOfMemory),
     }
 }
 

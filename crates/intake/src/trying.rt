@@ -14,7 +14,7 @@ ghost use Rattle.intake.specs.Targets.{seen_tried};
 use crate::calls::Deed;
 use crate::replies::{of_deed, of_fault, of_reply};
 use crate::response::Response;
-use crate::slips::{Slip, command, slip_of};
+use crate::slips::{Slip, SlipStop, command, slip_of};
 use std::alloc::Global;
 use store::{Command, Fault, Keeper, Moment, try_out};
 
@@ -42,12 +42,10 @@ pub(crate) fn deed_tried<K: Keeper>(
     ensures { IsCallServed (K.standing keeper.old) (K.standing keeper.new) moment
         Post (seen_tried deed.now) body.now (seen result) }
 {
-    let Ok(made) = slip_of(alloc, deed, body) else {
-        return of_fault(Fault::OutOfMemory);
-    };
-    match made {
+    match slip_of(alloc, deed, body) {
         Ok(slip) => slip_tried(alloc, keeper, &slip, moment),
-        Err(response) => response,
+        Err(SlipStop::Answered(response)) => response,
+        Err(SlipStop::OutOfMemory) => of_fault(Fault::OutOfMemory),
     }
 }
 

@@ -1,1 +1,3 @@
+pub mod Firsts
 pub mod Same
+pub mod Staying

@@ -1,1 +1,3 @@
 pub mod Gains
+pub mod Turns
+pub mod Rooms

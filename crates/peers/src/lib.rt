@@ -7,6 +7,7 @@ mod entrances;
 mod gathered;
 mod listener;
 mod peer;
+mod places;
 mod room;
 mod sending;
 mod streams;

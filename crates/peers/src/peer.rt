@@ -1,7 +1,8 @@
 //! One connection: what came of its request, and what has left of its response.
-ghost use Rattle.std.specs.Prelude.{◌≡◌, ◌≢◌, ◌≤◌, [], length, drop, take, IfSome};
+ghost use Rattle.std.specs.Prelude.{◌≡◌, ◌≢◌, ◌≤◌, [], length, drop, take, IfSome, IsTrue, None};
 ghost use Rattle.std.specs.Io.KnownBytes.{Appends, Consumes, Keeps, append_known};
 ghost use Rattle.peers.specs.Gains.{Gains};
+ghost use Rattle.peers.specs.Turns.{Asks, Follows, Waits};
 
 use crate::entrances::Door;
 use crate::gathered::{End, Gathered};
@@ -123,6 +124,9 @@ impl<T: Stream> Peer<T> {
     ) -> Peer<T>
         ensures address { result.address ≡ address }
         ensures door { result.door ≡ door }
+        ensures accepted { result.accepted ≡ now }
+        ensures arriving { result.phase ≡ Phase.Arriving }
+        ensures none { result.bytes ≡ empty }
     {
         Peer {
             stream,
@@ -172,12 +176,16 @@ impl<T: Stream> Peer<T> {
     }
 
     /// Whether it only waits for its peer, and nothing came of it just now.
-    pub(crate) fn is_idle(&self) -> bool {
+    pub(crate) fn is_idle(&self) -> bool
+        ensures { IsTrue result → self.now.phase ≡ Phase.Arriving }
+    {
         self.phase == Phase::Arriving && !self.stirs
     }
 
     /// How long it may stay where it is, if it may not stay there for good.
-    pub(crate) fn limit(&self, patience: Duration) -> Option<Duration> {
+    pub(crate) fn limit(&self, patience: Duration) -> Option<Duration>
+        ensures waits { Waits self.now → result ≡ None }
+    {
         match self.phase {
             Phase::Arriving | Phase::Leaving => Some(patience),
             Phase::Closing => Some(Duration::from_secs(CLOSING_SECONDS)),
@@ -188,7 +196,9 @@ impl<T: Stream> Peer<T> {
     /// It comes to another phase, in which it is looked at at once.
     pub(crate) fn enter(&mut self, phase: Phase, now: Duration)
         ensures phase { self.new.phase ≡ phase }
+        ensures address { self.new.address ≡ self.old.address }
         ensures door { self.new.door ≡ self.old.door }
+        ensures accepted { self.new.accepted ≡ self.old.accepted }
         ensures stream { self.new.stream ≡ self.old.stream }
         ensures bytes { self.new.bytes ≡ self.old.bytes }
         ensures passed { self.new.passed ≡ self.old.passed }
@@ -196,6 +206,22 @@ impl<T: Stream> Peer<T> {
         self.phase = phase;
         self.since = now;
         self.stirs = true;
+    }
+
+    /// The system may have something for it to do.
+    pub(crate) fn stir(&mut self)
+        ensures stays { Asks self.old → Follows self.old self.new }
+    {
+        self.stirs = true;
+    }
+
+    /// Where it only waits for its peer, it is waited for no longer.
+    pub(crate) fn make_way(&mut self, now: Duration)
+        ensures stays { Asks self.old → Follows self.old self.new }
+    {
+        if self.is_idle() {
+            self.enter(Phase::Waiting(End::Broken), now);
+        }
     }
 
     /// Its response begins to leave: what was kept of it, where its stream didn't take all.
@@ -233,6 +259,7 @@ impl<T: Stream> Peer<T> {
         ensures came { self.old.phase ≡ Phase.Arriving
             → self.new.phase ≡ Phase.Waiting End.Broken }
         ensures left { self.old.phase ≡ Phase.Leaving → self.new.phase ≡ Phase.Lost }
+        ensures stays { self.old.phase ≡ Phase.Arriving → Follows self.old self.new }
     {
         match self.phase {
             Phase::Arriving => self.enter(Phase::Waiting(End::Broken), now),
@@ -246,6 +273,7 @@ impl<T: Stream> Peer<T> {
         ensures door { self.new.door ≡ self.old.door }
         ensures stream { self.new.stream ≡ self.old.stream }
         ensures bytes { self.new.bytes ≡ self.old.bytes }
+        ensures others { self.new ≡ record self.old { size = self.new.size } }
     {
         if self.size.is_none() {
             self.size = framing.size_of(self.door, &self.bytes);
@@ -263,6 +291,7 @@ impl<T: Stream> Peer<T> {
         ensures came { self.new.phase ≢ Phase.Waiting End.Broken
             → Gains (T.remaining self.old.stream) (T.remaining self.new.stream)
             self.old.bytes.items self.new.bytes.items }
+        ensures stays { self.old.phase ≡ Phase.Arriving → Follows self.old self.new }
     {
         match read_once(&mut self.stream, &mut self.bytes) {
             Came::More => {
@@ -323,6 +352,7 @@ impl<T: Stream> Peer<T> {
         now: Duration,
     )
         ensures door { self.new.door ≡ self.old.door }
+        ensures stays { Asks self.old → Follows self.old self.new }
         ensures came { self.old.phase ≡ Phase.Arriving
             → self.new.phase ≢ Phase.Waiting End.Broken
             → Gains (T.remaining self.old.stream) (T.remaining self.new.stream)

@@ -1,11 +1,18 @@
 //! The connections that are there at once, each at a place of its own.
-ghost use Rattle.std.specs.Prelude.{◌≡◌, ◌+◌, ◌-◌, ◌^◌, min};
+ghost use Rattle.std.specs.Prelude.{◌≡◌, ◌+◌, ◌-◌, ◌^◌, min, IfNone, IfOk, IfSome};
+ghost use Rattle.std.specs.Prelude.{None, Some, replicate, slice_get};
+ghost use Rattle.peers.specs.Rooms.{CountsDown, IsNext, SomeTimeAfter, millis_between, with_next};
+ghost use Rattle.peers.specs.Turns.{AllStay, IsTaken, WaitsLongest};
 
 use crate::arrival::Arrival;
 use crate::entrances::{Accepted, Entrances, Listeners};
 use crate::gathered::End;
 use crate::listener::PeerAddress;
 use crate::peer::{Framing, Peer, Phase};
+use crate::places::{
+    advance_at, clear, empty_places, first_waiting, is_any_leaving, make_way_at, oldest_idle, stir,
+    take_at,
+};
 use crate::streams::PeerStream;
 use mio::{Events, Poll, Token};
 use std::alloc::Global;
@@ -57,13 +64,11 @@ pub struct Room<'q, Q> {
     places: Vec<Option<Peer<PeerStream>>>,
 }
 
-// So many places, with nobody at them.
-fn empty_places(alloc: Global, count: u16) -> io::Result<Vec<Option<Peer<PeerStream>>>> {
-    let mut places = Vec::with_capacity(alloc, usize::from(count))?;
-    for _ in 0..count {
-        places.push(None)?;
-    }
-    Ok(places)
+// How many milliseconds lie between two times; 2^64 - 1 where they are more.
+fn millis_between(from: Duration, to: Duration) -> u64
+    ensures { result ≡ millis_between from to }
+{
+    u64::try_from(to.saturating_sub(from).as_millis()).unwrap_or(u64::MAX)
 }
 
 // The sooner of two.
@@ -82,7 +87,10 @@ impl<'q, Q: Clock> Room<'q, Q> {
         listeners: Listeners,
         timer: &'q Q,
         limits: Limits,
-    ) -> io::Result<Room<'q, Q>> {
+    ) -> io::Result<Room<'q, Q>>
+        ensures limits { IfOk result (λ room. room.limits ≡ limits) }
+        ensures places { IfOk result (λ room. room.places.items ≡ replicate limits.peers None) }
+    {
         let poll = Poll::new(net)?;
         let entrances = Entrances::open(listeners, &poll)?;
         Ok(Room {
@@ -136,46 +144,33 @@ impl<'q, Q: Clock> Room<'q, Q> {
         }
     }
 
-    // The place of the one that has waited longest for its turn.
-    fn first_waiting(&self) -> Option<usize> {
-        let mut first: Option<(usize, Duration)> = None;
-        for (place, peer) in self.places.iter().enumerate() {
-            let Some(peer) = peer else {
-                continue;
-            };
-            if !matches!(peer.phase, Phase::Waiting(_)) {
-                continue;
-            }
-            match first {
-                Some((_, since)) if since <= peer.since => {}
-                _ => first = Some((place, peer.since)),
-            }
-        }
-        first.map(|(place, _)| place)
-    }
-
-    // Takes out one that waits for its turn, if any does.
-    fn take_waiting(&mut self) -> Option<Arrival> {
-        let place = self.first_waiting()?;
-        let peer = self.places.get_mut(place)?.take()?;
-        match peer.phase {
-            Phase::Waiting(end) => Some(Arrival { place, peer, end }),
-            _ => None,
-        }
+    // Takes out the one that has waited longest for its turn, if any does.
+    #[tactic(auto, using(crate::proofs::Staying::stay_set, crate::proofs::Staying::stay_same, crate::proofs::Staying::slice_get_read_back, crate::proofs::Staying::place_same))]
+    fn take_waiting(&mut self) -> Option<Arrival>
+        ensures taken { IfSome result (λ arrival. IsTaken arrival.place arrival.peer arrival.end
+            self.old.places.items self.new.places.items) }
+        ensures first { IfSome result (λ arrival.
+            WaitsLongest self.old.places.items arrival.place) }
+        ensures stay { IfNone result (AllStay self.old.places.items self.new.places.items) }
+        ensures others { self.new ≡ record self.old { places = self.new.places } }
+    {
+        let place = first_waiting(&self.places)?;
+        let at = self.places.get_mut(place)?;
+        let (peer, end) = take_at(at)?;
+        Some(Arrival { place, peer, end })
     }
 
     // Takes out one whose response didn't leave, if there is one, and those that are over.
-    fn take_lost(&mut self) -> Option<PeerAddress> {
-        for place in &mut self.places {
-            let Some(peer) = place else {
-                continue;
-            };
-            let (address, phase) = (peer.address, peer.phase);
-            if matches!(phase, Phase::Over | Phase::Lost) {
-                *place = None;
-            }
-            if phase == Phase::Lost {
-                return Some(address);
+    #[tactic(auto, using(crate::proofs::Staying::stay_set, crate::proofs::Staying::stay_trans, crate::proofs::Staying::stay_same))]
+    fn take_lost(&mut self) -> Option<PeerAddress>
+        ensures stays { AllStay self.old.places.items self.new.places.items }
+        ensures others { self.new ≡ record self.old { places = self.new.places } }
+    {
+        for at in 0..self.places.len() {
+            if let Some(place) = self.places.get_mut(at) {
+                if let Some(address) = clear(place) {
+                    return Some(address);
+                }
             }
         }
         None
@@ -209,66 +204,58 @@ impl<'q, Q: Clock> Room<'q, Q> {
     }
 
     // Asks the system what there is to do, and waits until there is something.
-    fn look(&mut self, wait: Option<Duration>) -> io::Result<()> {
+    fn look(&mut self, wait: Option<Duration>) -> io::Result<()>
+        ensures limits { self.new.limits ≡ self.old.limits }
+        ensures stays { AllStay self.old.places.items self.new.places.items }
+    {
         self.poll.poll(&mut self.events, wait)?;
-        for event in self.events.iter() {
-            let Token(place) = event.token();
-            if self.entrances.is_told_of(place) {
-                continue;
-            }
-            if let Some(Some(peer)) = self.places.get_mut(place) {
-                peer.stirs = true;
-            }
-        }
+        stir(&self.events, &mut self.entrances, &mut self.places);
         Ok(())
     }
 
     // Does for each connection what can be done now.
-    fn advance<F: Framing>(&mut self, framing: &F, now: Duration) {
+    #[tactic(auto, using(crate::proofs::Staying::stay_set, crate::proofs::Staying::stay_trans, crate::proofs::Staying::stay_same))]
+    fn advance<F: Framing>(&mut self, framing: &F, now: Duration)
+        ensures stays { AllStay self.old.places.items self.new.places.items }
+        ensures others { self.new ≡ record self.old { places = self.new.places } }
+    {
         let has_room = self.has_room();
         let patience = self.limits.patience;
-        for place in &mut self.places {
-            if let Some(peer) = place {
-                peer.advance(framing, has_room, patience, now);
+        for place in 0..self.places.len() {
+            if let Some(at) = self.places.get_mut(place) {
+                advance_at(at, framing, has_room, patience, now);
             }
         }
     }
 
     // The first place with nobody at it.
-    fn free_place(&self) -> Option<usize> {
+    fn free_place(&self) -> Option<usize>
+        ensures { IfSome result (λ place. slice_get self.now.places.items place ≡ Some None) }
+    {
         self.places.iter().position(|place| place.is_none())
     }
 
-    // The place of the one that has been idle for longest.
-    fn oldest_idle(&self) -> Option<usize> {
-        let mut oldest: Option<(usize, Duration)> = None;
-        for (place, peer) in self.places.iter().enumerate() {
-            let Some(peer) = peer else {
-                continue;
-            };
-            if !peer.is_idle() {
-                continue;
-            }
-            match oldest {
-                Some((_, since)) if since <= peer.since => {}
-                _ => oldest = Some((place, peer.since)),
-            }
-        }
-        oldest.map(|(place, _)| place)
-    }
-
     // Where all places are taken, the one that has been idle for longest is waited for no longer.
-    fn make_room(&mut self, now: Duration) {
-        let Some(place) = self.oldest_idle() else {
+    #[tactic(auto, using(crate::proofs::Staying::stay_set, crate::proofs::Staying::stay_same))]
+    fn make_room(&mut self, now: Duration)
+        ensures stays { AllStay self.old.places.items self.new.places.items }
+        ensures others { self.new ≡ record self.old { places = self.new.places } }
+    {
+        let Some(place) = oldest_idle(&self.places) else {
             return;
         };
-        if let Some(Some(peer)) = self.places.get_mut(place) {
-            peer.enter(Phase::Waiting(End::Broken), now);
+        if let Some(at) = self.places.get_mut(place) {
+            make_way_at(at, now);
         }
     }
 
     // Accepts one connection at a place, by either door; false where there is none now.
-    fn accept_at(&mut self, place: usize, now: Duration) -> io::Result<bool> {
+    #[tactic(auto, using(crate::proofs::Staying::stay_free, crate::proofs::Staying::stay_same))]
+    fn accept_at(&mut self, place: usize, now: Duration) -> io::Result<bool>
+        ensures limits { self.new.limits ≡ self.old.limits }
+        ensures stays { slice_get self.old.places.items place ≡ Some None
+            → AllStay self.old.places.items self.new.places.items }
+    {
         let Some(accepted) = self.entrances.accept()? else {
             return Ok(false);
         };
@@ -285,7 +272,11 @@ impl<'q, Q: Clock> Room<'q, Q> {
     }
 
     // Accepts those that can be now, and makes room for the next where there is none.
-    fn accept(&mut self, now: Duration) -> io::Result<()> {
+    #[tactic(auto, using(crate::proofs::Staying::stay_trans, crate::proofs::Staying::stay_same))]
+    fn accept(&mut self, now: Duration) -> io::Result<()>
+        ensures limits { CountsDown self.old.limits self.new.limits }
+        ensures stays { AllStay self.old.places.items self.new.places.items }
+    {
         for _ in 0..self.limits.count {
             if !self.entrances.may_accept() {
                 return Ok(());
@@ -306,7 +297,11 @@ impl<'q, Q: Clock> Room<'q, Q> {
     }
 
     // Waits until something can be done, and does it.
-    fn turn<F: Framing>(&mut self, framing: &F) -> io::Result<()> {
+    #[tactic(auto, using(crate::proofs::Staying::stay_trans, crate::proofs::Staying::stay_same))]
+    fn turn<F: Framing>(&mut self, framing: &F) -> io::Result<()>
+        ensures limits { CountsDown self.old.limits self.new.limits }
+        ensures stays { AllStay self.old.places.items self.new.places.items }
+    {
         let wait = self.longest_wait(self.now());
         self.look(wait)?;
         let now = self.now();
@@ -317,7 +312,12 @@ impl<'q, Q: Clock> Room<'q, Q> {
     /// What comes next: a connection of which no more of its request is read, in the order in which
     /// they came so far; or one that couldn't be accepted. Until then all others are served as far
     /// as they can be.
-    pub fn next<F: Framing>(&mut self, framing: &F) -> Next {
+    #[tactic(auto, using(crate::proofs::Staying::stay_trans, crate::proofs::Staying::stay_same, crate::proofs::Staying::stay_taken, crate::proofs::Staying::free_taken))]
+    pub fn next<F: Framing>(&mut self, framing: &F) -> Next
+        ensures limits { CountsDown self.old.limits self.new.limits }
+        ensures stays { AllStay self.old.places.items (with_next result self.new.places.items) }
+        ensures taken { IsNext result self.new.places.items }
+    {
         for _ in 0..u64::MAX {
             if let Some(address) = self.take_lost() {
                 return Next::Lost(address);
@@ -340,9 +340,10 @@ impl<'q, Q: Clock> Room<'q, Q> {
     }
 
     /// How many milliseconds ago a connection was accepted.
-    pub fn millis_of(&self, arrival: &Arrival) -> u64 {
-        let took = self.now().saturating_sub(arrival.peer.accepted);
-        u64::try_from(took.as_millis()).unwrap_or(u64::MAX)
+    pub fn millis_of(&self, arrival: &Arrival) -> u64
+        ensures { SomeTimeAfter arrival.now.peer.accepted result }
+    {
+        millis_between(arrival.peer.accepted, self.now())
     }
 
     /// Takes back a connection that was answered: what its peer didn't take at once leaves later.
@@ -368,24 +369,20 @@ impl<'q, Q: Clock> Room<'q, Q> {
 
     /// Waits, with nobody more to be answered, until all responses have left. The result is the
     /// next peer whose response couldn't; None where there is no more of them.
-    pub fn finish<F: Framing>(&mut self, framing: &F) -> Option<PeerAddress> {
+    #[tactic(auto, using(crate::proofs::Staying::stay_trans, crate::proofs::Staying::stay_same))]
+    pub fn finish<F: Framing>(&mut self, framing: &F) -> Option<PeerAddress>
+        ensures closed { self.new.limits ≡ record self.old.limits { count = 0 } }
+        ensures stays { AllStay self.old.places.items self.new.places.items }
+    {
         self.limits.count = 0;
         for _ in 0..u64::MAX {
             if let Some(address) = self.take_lost() {
                 return Some(address);
             }
-            if !self.is_any_leaving() || self.turn(framing).is_err() {
+            if !is_any_leaving(&self.places) || self.turn(framing).is_err() {
                 return None;
             }
         }
         None
-    }
-
-    // Whether a response leaves, or what comes after it is dropped.
-    fn is_any_leaving(&self) -> bool {
-        self.places.iter().any(|place| match place {
-            Some(peer) => matches!(peer.phase, Phase::Leaving | Phase::Closing),
-            None => false,
-        })
     }
 }

@@ -1,5 +1,5 @@
 -- What is open is the same of the events and of the page, and so is a text of it.
-use Rattle.std.proofs.Common.{◌≡◌, ℕ, Bool, true, false, cond, List, [], map, flat_map, refl, ap, sym, subst, ◌∙◌, bytes_eq, Option, Some, None, option_map, Ok, Err}
+use Rattle.std.proofs.Common.{◌≡◌, ℕ, Bool, true, false, cond, List, [], map, flat_map, refl, ap, sym, subst, ◌∙◌, bytes_eq, Option, Some, None, option_map, Result, Ok, Err, IfErr, IsErrAnd}
 use Rattle.std.proofs.lemmas.List.Folds.{flat_map-map}
 use Rattle.definitions.specs.Lists.{in_order}
 use Rattle.definitions.specs.Means.{Line, Advice, advised, OrderLine}
@@ -9,17 +9,21 @@ use Rattle.definitions.specs.Need.{need_of_number}
 use Rattle.definitions.specs.Page.{PageAdvice, PageOrder, reserved_lines, page_line, page_advice, page_order}
 use Rattle.definitions.specs.declared.refusals.Refusal.{Refusal}
 use Rattle.definitions.specs.declared.refusals.Refusal.TheVariants.{AdviceClosed, OrderClosed}
+use Rattle.definitions.specs.Reports.{pick_sheet, pick_list}
 use Rattle.definitions.proofs.NeedLaws.{alone}
 use Rattle.definitions.proofs.TextLaws.{text_is}
 use Rattle.store.specs.Pages.{PageFacts, advice_at, order_at}
 use Rattle.store.specs.Decided.{IsHeldPart}
-use Rattle.reports.specs.Opened.{told, open_advice, advice_opened}
+use Rattle.reports.specs.Opened.{told, open_advice, advice_opened, open_order, order_opened}
 use Rattle.reports.specs.PairLines.{lines_text}
-use Rattle.reports.specs.Picking.{held_of}
+use Rattle.reports.specs.Picking.{held_of, order_sheet, listed}
 use Rattle.reports.specs.Receiving as receiving
 use Rattle.reports.specs.PickSheets as picks
-use Rattle.reports.proofs.PickLaws.{held_is, found_is, number_of}
+use Rattle.reports.proofs.PickLaws.{held_is, sheet_is, found_is, number_of}
 use Rattle.reports.proofs.TakenLaws.{pick_taken}
+use Rattle.unready.specs.Refused.{IfRefused}
+use Rattle.unready.specs.declared.Unready.{Unready}
+use Rattle.unready.specs.declared.Unready.TheVariants.{Refused}
 
 -- Advices.
 
@@ -73,20 +77,20 @@ advice_told text shown es shipment same = by_advice (advice_under shipment es) r
         ∙ ap (λ o. told shown (advice_opened (option_map (page_advice es) o))) (sym e)
 
 -- a part of the page that has the advice will do
-part_told : (text : Advice → List ℕ) (shown : PageAdvice → List ℕ) (p : PageFacts) (h : History) (shipment : List ℕ) → ((a : Advice) → shown (page_advice h.events a) ≡ text a)
+advice_part_told : (text : Advice → List ℕ) (shown : PageAdvice → List ℕ) (p : PageFacts) (h : History) (shipment : List ℕ) → ((a : Advice) → shown (page_advice h.events a) ≡ text a)
     → IsHeldPart (receiving.need_of_shipment shipment) p h → told text (open_advice h.events shipment) ≡ told shown (advice_opened (advice_at shipment p.advices))
-part_told text shown p h shipment same held =
+advice_part_told text shown p h shipment same held =
     advice_told text shown h.events shipment same
     ∙ ap (λ o. told shown (advice_opened o)) (sym (held.part.advices shipment (alone shipment) ∙ held.page.shows.advices shipment))
 
 pub part_sheet : (p : PageFacts) (h : History) (shipment : List ℕ) → IsHeldPart (receiving.need_of_shipment shipment) p h
     → receiving.receiving_list h.events shipment ≡ receiving.sheet_on (advice_at shipment p.advices)
 part_sheet p h shipment held =
-    part_told (λ a. receiving.receiving_sheet a.shipment (advised a)) (λ k. receiving.receiving_sheet k.shipment k.lines) p h shipment (λ a. refl) held
+    advice_part_told (λ a. receiving.receiving_sheet a.shipment (advised a)) (λ k. receiving.receiving_sheet k.shipment k.lines) p h shipment (λ a. refl) held
 
 pub part_csv : (p : PageFacts) (h : History) (shipment : List ℕ) → IsHeldPart (receiving.need_of_shipment shipment) p h
     → receiving.receiving_csv h.events shipment ≡ receiving.csv_on (advice_at shipment p.advices)
-part_csv p h shipment held = part_told (λ a. lines_text (advised a)) (λ k. lines_text k.lines) p h shipment (λ a. refl) held
+part_csv p h shipment held = advice_part_told (λ a. lines_text (advised a)) (λ k. lines_text k.lines) p h shipment (λ a. refl) held
 
 -- Orders.
 
@@ -98,33 +102,60 @@ pairs_are es r h =
     ∙ flat_map-map (λ l. held_of (reserved_lines r.shares) l.item) page_line r.order.lines
     ∙ (λ i. flat_map (λ (l : OrderLine). held_is r.shares l.item i) r.order.lines)
 
--- the text of an order is that of what the page shows of it
-order_told : (es : List Event) (number : List ℕ) → picks.picking_csv es number ≡ picks.csv_on (option_map (page_order es) (order_under number es))
-order_told es number = by_order (order_under number es) refl
+-- a text of an order is that of what the page shows of it
+order_told : (text : Reserved → List ℕ) (shown : PageOrder → List ℕ) (es : List Event) (number : List ℕ) → ((r : Reserved) → is_order_open r.order.number es ≡ true → shown (page_order es r) ≡ text r)
+    → told text (open_order es number) ≡ told shown (order_opened (option_map (page_order es) (order_under number es)))
+order_told text shown es number same = by_order (order_under number es) refl
   where
-    by_open : (r : Reserved) → order_under number es ≡ Some r → r.order.number ≡ number → (t : Bool) → is_order_open number es ≡ t → picks.picking_csv es number ≡ picks.csv_on (Some (page_order es r))
-    by_open r e same true f =
-        let is_open : is_order_open r.order.number es ≡ true = ap (λ n. is_order_open n es) same ∙ f in
-        let meant : picks.picking_csv es number ≡ Ok (lines_text (picks.reserved_pairs r)) = rw (e, f) refl in
-        let found : picks.csv_on (Some (page_order es r)) ≡ Ok (lines_text (picks.held_pairs (page_order es r))) =
-        ap (λ t. told (λ k. lines_text (picks.held_pairs k)) (cond t (Ok (page_order es r)) (Err OrderClosed))) is_open in
-        meant ∙ ap (λ ls. Ok (lines_text ls)) (sym (pairs_are es r is_open)) ∙ sym found
-    by_open r e same false f =
-        let is_closed : is_order_open r.order.number es ≡ false = ap (λ n. is_order_open n es) same ∙ f in
-        let meant : picks.picking_csv es number ≡ Err OrderClosed = rw (e, f) refl in
-        let found : picks.csv_on (Some (page_order es r)) ≡ Err OrderClosed =
-        ap (λ t. told (λ k. lines_text (picks.held_pairs k)) (cond t (Ok (page_order es r)) (Err OrderClosed))) is_closed in
+    by_open : (r : Reserved) → order_under number es ≡ Some r → r.order.number ≡ number → (t : Bool) → is_order_open number es ≡ t
+        → told text (open_order es number) ≡ told shown (order_opened (Some (page_order es r)))
+    by_open r e under true f =
+        let is_open : is_order_open r.order.number es ≡ true = ap (λ n. is_order_open n es) under ∙ f in
+        let meant : told text (open_order es number) ≡ Ok (text r) = rw (e, f) refl in
+        let found : told shown (order_opened (Some (page_order es r))) ≡ Ok (shown (page_order es r)) =
+        ap (λ t. told shown (cond t (Ok (page_order es r)) (Err OrderClosed))) is_open in
+        meant ∙ ap Ok (sym (same r is_open)) ∙ sym found
+    by_open r e under false f =
+        let is_closed : is_order_open r.order.number es ≡ false = ap (λ n. is_order_open n es) under ∙ f in
+        let meant : told text (open_order es number) ≡ Err OrderClosed = rw (e, f) refl in
+        let found : told shown (order_opened (Some (page_order es r))) ≡ Err OrderClosed =
+        ap (λ t. told shown (cond t (Ok (page_order es r)) (Err OrderClosed))) is_closed in
         meant ∙ sym found
 
-    by_order : (o : Option Reserved) → order_under number es ≡ o → picks.picking_csv es number ≡ picks.csv_on (option_map (page_order es) (order_under number es))
+    by_order : (o : Option Reserved) → order_under number es ≡ o
+        → told text (open_order es number) ≡ told shown (order_opened (option_map (page_order es) (order_under number es)))
     by_order None e = rw e refl
     by_order (Some r) e =
         by_open r e (found_is (order_if number) (λ r. r.order.number ≡ number) (number_of number) es r e) (is_order_open number es) refl
-        ∙ ap (λ o. picks.csv_on (option_map (page_order es) o)) (sym e)
+        ∙ ap (λ o. told shown (order_opened (option_map (page_order es) o))) (sym e)
+
+-- a part of the page that has the order will do
+order_part_told : (text : Reserved → List ℕ) (shown : PageOrder → List ℕ) (p : PageFacts) (h : History) (number : List ℕ)
+    → ((r : Reserved) → is_order_open r.order.number h.events ≡ true → shown (page_order h.events r) ≡ text r)
+    → IsHeldPart (need_of_number number) p h → told text (open_order h.events number) ≡ told shown (order_opened (order_at number p.orders))
+order_part_told text shown p h number same held =
+    order_told text shown h.events number same
+    ∙ ap (λ o. told shown (order_opened o)) (sym (held.part.orders number (alone number) ∙ held.page.shows.orders number))
 
 pub part_picks : (p : PageFacts) (h : History) (number : List ℕ) → IsHeldPart (need_of_number number) p h → picks.picking_csv h.events number ≡ picks.csv_on (order_at number p.orders)
 part_picks p h number held =
-    order_told h.events number ∙ ap picks.csv_on (sym (held.part.orders number (alone number) ∙ held.page.shows.orders number))
+    order_part_told (λ r. lines_text (picks.reserved_pairs r)) (λ k. lines_text (picks.held_pairs k)) p h number (λ r is_open. ap lines_text (pairs_are h.events r is_open)) held
+
+-- the picking sheet is told of what is open
+list_told : (es : List Event) (number : List ℕ) → pick_list es number ≡ told pick_sheet (open_order es number)
+list_told es number = by_order (order_under number es) refl
+  where
+    by_open : (r : Reserved) → order_under number es ≡ Some r → (t : Bool) → is_order_open number es ≡ t → pick_list es number ≡ told pick_sheet (open_order es number)
+    by_open r e true f = rw (e, f) refl
+    by_open r e false f = rw (e, f) refl
+
+    by_order : (o : Option Reserved) → order_under number es ≡ o → pick_list es number ≡ told pick_sheet (open_order es number)
+    by_order None e = rw e refl
+    by_order (Some r) e = by_open r e (is_order_open number es) refl
+
+pub part_list : (p : PageFacts) (h : History) (number : List ℕ) → IsHeldPart (need_of_number number) p h → pick_list h.events number ≡ listed (order_at number p.orders)
+part_list p h number held =
+    list_told h.events number ∙ order_part_told pick_sheet order_sheet p h number (λ r is_open. sheet_is h.events r is_open) held
 
 -- What a text is told of is open.
 
@@ -157,3 +188,8 @@ page_taken p h number text told_so held k there = by_order (order_under number h
         let pairs : picks.held_pairs k ≡ picks.reserved_pairs r = ap picks.held_pairs same ∙ pairs_are h.events r is_open in
         subst (λ ls. picks.IsTaken h.events number (in_order pair_before ls)) (sym pairs)
         (pick_taken h.events number r e (sym (ap (λ n. is_order_open n h.events) under) ∙ is_open))
+
+-- a refusal that is handed on
+pub handed_on : {X : Type 0} (r : Result X Unready) (refusal : Refusal) (P : Refusal → Type 0) → IsErrAnd r (λ why. why ≡ Refused refusal) → P refusal → IfErr r (IfRefused P)
+handed_on (Ok x) refusal P why so = tt
+handed_on (Err u) refusal P why so = subst (IfRefused P) (sym why) so

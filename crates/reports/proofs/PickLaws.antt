@@ -1,22 +1,15 @@
 -- A picking sheet is the same of the events and of the page.
-use Rattle.std.proofs.Common.{◌≡◌, ℕ, Bool, true, false, ◌&&◌, List, [], ◌∷◌, map, filter, flat_map, refl, ap, sym, ◌∙◌, bytes_eq, Option, Some, None, option_map, Ok, Err}
+use Rattle.std.proofs.Common.{◌≡◌, ℕ, Bool, true, false, ◌&&◌, List, [], ◌∷◌, map, filter, flat_map, refl, ap, sym, ◌∙◌, bytes_eq, Option, Some, None}
 use Rattle.std.specs.Prelude.{nat_lt}
 use Rattle.std.proofs.lemmas.List.Folds.{flat_map-map}
 use Rattle.definitions.specs.Lists.{in_order, first_found, or_else}
 use Rattle.definitions.specs.Means.{Line, OrderLine}
-use Rattle.definitions.specs.Events.{Event, Enrolment, Advised, Ordered, Acknowledged, Counted, Picked, Recounted, pair_before, Reserved, order_if, order_under, is_order_open}
-use Rattle.definitions.specs.History.{History}
-use Rattle.definitions.specs.Need.{need_of_number}
+use Rattle.definitions.specs.Events.{Event, Enrolment, Advised, Ordered, Acknowledged, Counted, Picked, Recounted, pair_before, Reserved, order_if, is_order_open}
 use Rattle.definitions.specs.Page.{reserved_lines, page_line, page_order}
-use Rattle.definitions.specs.declared.refusals.Refusal.TheVariants.{OrderClosed}
-use Rattle.definitions.specs.Reports.{pick_lines, pick_sheet, pick_list}
-use Rattle.definitions.proofs.NeedLaws.{alone}
+use Rattle.definitions.specs.Reports.{pick_lines, pick_sheet}
 use Rattle.definitions.proofs.TextLaws.{text_is}
 use Rattle.store.proofs.PairLaws.{before_through, one_pair}
-use Rattle.store.specs.Pages.{PageFacts, order_at}
-use Rattle.store.specs.Shows.{Shows}
-use Rattle.store.specs.Decided.{IsHeldPart}
-use Rattle.reports.specs.Picking.{held_of, order_lines, order_sheet, listed}
+use Rattle.reports.specs.Picking.{held_of, order_lines, order_sheet}
 use Rattle.reports.proofs.FilterLaws.{filter_in_order, filters}
 
 -- the reservations of an item are those of its shares
@@ -31,7 +24,8 @@ lines_are shares l = rw (held_is shares l.item) refl
 all_lines_are : (shares : List Line) (ls : List OrderLine) → flat_map (order_lines (reserved_lines shares)) (map page_line ls) ≡ flat_map (pick_lines shares) ls
 all_lines_are shares ls = flat_map-map (order_lines (reserved_lines shares)) page_line ls ∙ (λ i. flat_map (λ l. lines_are shares l i) ls)
 
-sheet_is : (es : List Event) (r : Reserved) → is_order_open r.order.number es ≡ true → order_sheet (page_order es r) ≡ pick_sheet r
+-- the sheet of an open order is that of what the page shows of it
+pub sheet_is : (es : List Event) (r : Reserved) → is_order_open r.order.number es ≡ true → order_sheet (page_order es r) ≡ pick_sheet r
 sheet_is es r h = rw (h, all_lines_are r.shares r.order.lines) refl
 
 -- an order is found under its number
@@ -64,32 +58,3 @@ number_of number (Acknowledged n a) r h = absurd (cc)
 number_of number (Counted n a sheet) r h = absurd (cc)
 number_of number (Picked n o shares sheet) r h = absurd (cc)
 number_of number (Recounted n before sheet) r h = absurd (cc)
-
--- the list of the events is that of the page's order
-listed_is : (es : List Event) (number : List ℕ) → pick_list es number ≡ listed (option_map (page_order es) (order_under number es))
-listed_is es number = by_order (order_under number es) refl
-  where
-    by_open : (r : Reserved) → order_under number es ≡ Some r → r.order.number ≡ number → (t : Bool) → is_order_open number es ≡ t → pick_list es number ≡ listed (Some (page_order es r))
-    by_open r e same true f =
-        let is_open : is_order_open r.order.number es ≡ true = ap (λ n. is_order_open n es) same ∙ f in
-        let meant : pick_list es number ≡ Ok (pick_sheet r) = rw (e, f) refl in
-        let found : listed (Some (page_order es r)) ≡ Ok (order_sheet (page_order es r)) = rw is_open refl in
-        meant ∙ ap Ok (sym (sheet_is es r is_open)) ∙ sym found
-    by_open r e same false f =
-        let is_closed : is_order_open r.order.number es ≡ false = ap (λ n. is_order_open n es) same ∙ f in
-        let meant : pick_list es number ≡ Err OrderClosed = rw (e, f) refl in
-        let found : listed (Some (page_order es r)) ≡ Err OrderClosed = rw is_closed refl in
-        meant ∙ sym found
-
-    by_order : (o : Option Reserved) → order_under number es ≡ o → pick_list es number ≡ listed (option_map (page_order es) (order_under number es))
-    by_order None e = rw e refl
-    by_order (Some r) e =
-        by_open r e (found_is (order_if number) (λ r. r.order.number ≡ number) (number_of number) es r e) (is_order_open number es) refl
-        ∙ ap (λ o. listed (option_map (page_order es) o)) (sym e)
-
-shown_list : (P : PageFacts) (es : List Event) (number : List ℕ) → Shows P es → pick_list es number ≡ listed (order_at number P.orders)
-shown_list P es number shows = listed_is es number ∙ ap listed (sym (shows.orders number))
-
--- a part of the page that has the order will do
-pub part_list : (p : PageFacts) (h : History) (number : List ℕ) → IsHeldPart (need_of_number number) p h → pick_list h.events number ≡ listed (order_at number p.orders)
-part_list p h number held = shown_list held.whole h.events number held.page.shows ∙ ap listed (sym (held.part.orders number (alone number)))

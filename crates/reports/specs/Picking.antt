@@ -1,11 +1,11 @@
 -- Picking sheets of orders as a page has them.
-use Rattle.std.specs.Prelude.{ℕ, ◌-◌, List, [], ◌++◌, length, if◌then◌else◌, nat_lt, ◌==◌, Some, None, Ok, Err, codes, bytes_eq, filter, flat_map, Option, Result, option_to_list}
+use Rattle.std.specs.Prelude.{ℕ, ◌-◌, List, [], ◌++◌, length, if◌then◌else◌, nat_lt, ◌==◌, codes, bytes_eq, filter, flat_map, Option, Result, option_to_list}
 use Rattle.definitions.specs.Means.{Line}
 use Rattle.definitions.specs.Page.{PageLine, PageOrder}
 use Rattle.definitions.specs.declared.refusals.Refusal.{Refusal}
-use Rattle.definitions.specs.declared.refusals.Refusal.TheVariants as refusals
 use Rattle.definitions.specs.Reports.{ended, address_lines, pick_line}
 use Rattle.definitions.specs.Texts.{total_of}
+use Rattle.reports.specs.Opened.{told, order_opened}
 
 -- the reservations of an item
 abbrev pub held_of : List Line → List ℕ → List Line
@@ -36,7 +36,6 @@ order_sheet k =
     ++ flat_map address_lines (option_to_list k.address)
     ++ flat_map (order_lines k.reserved) k.lines
 
--- the sheet of an order that was looked up
+-- of the order that a page has under a number
 abbrev pub listed : Option PageOrder → Result (List ℕ) Refusal
-listed None = Err refusals.UnknownOrder
-listed (Some k) = if k.is_open then Ok (order_sheet k) else Err refusals.OrderClosed
+listed found = told order_sheet (order_opened found)

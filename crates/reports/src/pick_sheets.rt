@@ -12,11 +12,13 @@ ghost use Rattle.reports.specs.Picking.{held_of};
 ghost use Rattle.reports.specs.PickSheets as meant;
 ghost use Rattle.store.specs.Pages.{order_at};
 ghost use Rattle.store.specs.Decided.{IsHeldPart};
+ghost use Rattle.unready.specs.Refused.{IfRefused};
 
 use crate::opened::open_order;
 use crate::pair_lines::append_pair;
 use std::alloc::{AllocError, Global};
-use store::{Goods, KnownOrder, Page, Refusal};
+use store::{Goods, KnownOrder, Page};
+use unready::Unready;
 
 // Appends a line for each reservation of the item.
 fn append_held(out: &mut Vec<u8>, reserved: &[Goods], item: &[u8]) -> Result<(), AllocError>
@@ -42,58 +44,34 @@ fn reserved_csv(alloc: Global, order: &KnownOrder) -> Result<Vec<u8>, AllocError
     Ok(text)
 }
 
-// Those of a page's order, if there is one and it is open. The outer error is want of memory.
-fn csv_on(alloc: Global, page: &Page, number: &[u8]) -> Result<Result<Vec<u8>, Refusal>, AllocError>
-    ensures ok { IfOk result
-        (λ made. IfOk made (λ text. meant.csv_on (order_at number.now page.now.orders)
-        ≡ Ok text.items)) }
-    ensures err { IfOk result
-        (λ made. IfErr made (λ refusal. meant.csv_on (order_at number.now page.now.orders)
-        ≡ Err refusal)) }
-{
-    match open_order(page, number) {
-        Err(refusal) => Ok(Err(refusal)),
-        Ok(order) => Ok(Ok(reserved_csv(alloc, order)?)),
-    }
-}
-
 /// What is reserved for an open order, by a page that has the order, as a sheet for its pick: CSV
 /// without a header, the record `item,lot,quantity` for each reservation, in the order of the
-/// picking sheet, without what is short, with quantities in the unit EA. Refused are 24, an unknown
-/// order, and 25, one that was picked. The outer error is want of memory.
-pub fn picking_csv(
-    alloc: Global,
-    page: &Page,
-    number: &[u8],
-) -> Result<Result<Vec<u8>, Refusal>, AllocError>
+/// picking sheet, without what is short, with quantities in the unit EA. The error is 24, an
+/// unknown order, 25, one that was picked, or want of memory.
+pub fn picking_csv(alloc: Global, page: &Page, number: &[u8]) -> Result<Vec<u8>, Unready>
     // Of the history of which the page has the part that is needed.
     ensures ok { IfOk result
-        (λ made. IfOk made (λ text. (h : History)
-        → IsHeldPart (need_of_number number.now) page.now h
-        → meant.picking_csv h.events number.now ≡ Ok text.items)) }
-    ensures err { IfOk result
-        (λ made. IfErr made (λ refusal. (h : History)
-        → IsHeldPart (need_of_number number.now) page.now h
+        (λ text. (h : History) → IsHeldPart (need_of_number number.now) page.now h
+        → meant.picking_csv h.events number.now ≡ Ok text.items) }
+    ensures err { IfErr result
+        (IfRefused (λ refusal. (h : History) → IsHeldPart (need_of_number number.now) page.now h
         → meant.picking_csv h.events number.now ≡ Err refusal)) }
 
     // The same of the page alone.
     ensures sheet { IfOk result
-        (λ made. IfOk made (λ text. meant.csv_on (order_at number.now page.now.orders)
-        ≡ Ok text.items)) }
-    ensures none { IfOk result
-        (λ made. IfErr made (λ refusal. meant.csv_on (order_at number.now page.now.orders)
+        (λ text. meant.csv_on (order_at number.now page.now.orders) ≡ Ok text.items) }
+    ensures none { IfErr result
+        (IfRefused (λ refusal. meant.csv_on (order_at number.now page.now.orders)
         ≡ Err refusal)) }
 
     // A pick that is handed the text gets a sheet of just these pairs, and takes it.
     ensures back { IfOk result
-        (λ made. IfOk made (λ text. (r : Rules) (k : PageOrder)
-        → order_at number.now page.now.orders ≡ Some k
-        → ReadsBack r Pick text.items (meant.held_pairs k))) }
+        (λ text. (r : Rules) (k : PageOrder) → order_at number.now page.now.orders ≡ Some k
+        → ReadsBack r Pick text.items (meant.held_pairs k)) }
     ensures taken { IfOk result
-        (λ made. IfOk made (λ text. (h : History)
-        → IsHeldPart (need_of_number number.now) page.now h → (k : PageOrder)
-        → order_at number.now page.now.orders ≡ Some k
-        → meant.IsTaken h.events number.now (in_order pair_before (meant.held_pairs k)))) }
+        (λ text. (h : History) → IsHeldPart (need_of_number number.now) page.now h
+        → (k : PageOrder) → order_at number.now page.now.orders ≡ Some k
+        → meant.IsTaken h.events number.now (in_order pair_before (meant.held_pairs k))) }
 {
-    csv_on(alloc, page, number)
+    Ok(reserved_csv(alloc, open_order(page, number)?)?)
 }

@@ -1,16 +1,19 @@
-ghost use Rattle.std.specs.Prelude.{◌≡◌, ◌++◌, Some, Ok, Err, IfOk, IfErr, OnOk, flat_map, option_to_list};
+ghost use Rattle.std.specs.Prelude.{◌≡◌, ◌++◌, Ok, Err, IfOk, IfErr, OnOk, flat_map, option_to_list};
 ghost use Rattle.definitions.specs.History.{History};
 ghost use Rattle.definitions.specs.Need.{need_of_number};
 ghost use Rattle.definitions.specs.Reports as meant;
 ghost use Rattle.reports.specs.Picking.{held_of, held_lines, short_of as meant_short_of, short_line, address_line, order_lines, order_sheet, listed};
 ghost use Rattle.store.specs.Pages.{order_at};
 ghost use Rattle.store.specs.Decided.{IsHeldPart};
+ghost use Rattle.unready.specs.Refused.{IfRefused};
 
 use crate::columns::{append_left, append_right};
+use crate::opened::open_order;
 use definitions::{MOST_ITEM, MOST_LOT, QUANTITY_COLUMN};
 use itoa::Buffer;
 use std::alloc::{AllocError, Global};
-use store::{Address, Goods, KnownLine, KnownOrder, Page, Refusal};
+use store::{Address, Goods, KnownLine, KnownOrder, Page};
+use unready::Unready;
 
 /// Appends the beginning, the text and LF.
 pub(crate) fn append_ended(
@@ -135,64 +138,23 @@ fn picking_sheet(alloc: Global, order: &KnownOrder) -> Result<Vec<u8>, AllocErro
     Ok(text)
 }
 
-// The picking sheet of an order, if it is open. The one error is want of memory.
-fn sheet_of(alloc: Global, order: &KnownOrder) -> Result<Result<Vec<u8>, Refusal>, AllocError>
-    ensures ok { IfOk result
-        (λ made. IfOk made (λ text. listed (Some order.now) ≡ Ok text.items)) }
-    ensures err { IfOk result
-        (λ made. IfErr made (λ refusal. listed (Some order.now) ≡ Err refusal)) }
-{
-    if !order.is_open {
-        return Ok(Err(Refusal::OrderClosed));
-    }
-    Ok(Ok(picking_sheet(alloc, order)?))
-}
-
-// The picking sheet of a page's order, if there is one and it is open. The one error is want of
-// memory.
-fn sheet_on(
-    alloc: Global,
-    page: &Page,
-    number: &[u8],
-) -> Result<Result<Vec<u8>, Refusal>, AllocError>
-    ensures ok { IfOk result
-        (λ made. IfOk made (λ text. listed (order_at number.now page.now.orders)
-        ≡ Ok text.items)) }
-    ensures err { IfOk result
-        (λ made. IfErr made (λ refusal. listed (order_at number.now page.now.orders)
-        ≡ Err refusal)) }
-{
-    match page.order(number) {
-        None => Ok(Err(Refusal::UnknownOrder)),
-        Some(order) => sheet_of(alloc, order),
-    }
-}
-
 /// The picking sheet of an open order, by a page that has the order: its number, where it goes, and
-/// for each of its lines what is reserved, by lot bytes, and what is short. Refused are 24, an
-/// unknown order, and 25, one that was picked. The outer error is want of memory.
-pub fn pick_list(
-    alloc: Global,
-    page: &Page,
-    number: &[u8],
-) -> Result<Result<Vec<u8>, Refusal>, AllocError>
+/// for each of its lines what is reserved, by lot bytes, and what is short. The error is 24, an
+/// unknown order, 25, one that was picked, or want of memory.
+pub fn pick_list(alloc: Global, page: &Page, number: &[u8]) -> Result<Vec<u8>, Unready>
     // Of the history of which the page has the part that is needed.
     ensures ok { IfOk result
-        (λ made. IfOk made (λ text. (h : History)
-        → IsHeldPart (need_of_number number.now) page.now h
-        → meant.pick_list h.events number.now ≡ Ok text.items)) }
-    ensures err { IfOk result
-        (λ made. IfErr made (λ refusal. (h : History)
-        → IsHeldPart (need_of_number number.now) page.now h
+        (λ text. (h : History) → IsHeldPart (need_of_number number.now) page.now h
+        → meant.pick_list h.events number.now ≡ Ok text.items) }
+    ensures err { IfErr result
+        (IfRefused (λ refusal. (h : History) → IsHeldPart (need_of_number number.now) page.now h
         → meant.pick_list h.events number.now ≡ Err refusal)) }
 
     // The same of the page alone.
     ensures sheet { IfOk result
-        (λ made. IfOk made (λ text. listed (order_at number.now page.now.orders)
-        ≡ Ok text.items)) }
-    ensures none { IfOk result
-        (λ made. IfErr made (λ refusal. listed (order_at number.now page.now.orders)
-        ≡ Err refusal)) }
+        (λ text. listed (order_at number.now page.now.orders) ≡ Ok text.items) }
+    ensures none { IfErr result
+        (IfRefused (λ refusal. listed (order_at number.now page.now.orders) ≡ Err refusal)) }
 {
-    sheet_on(alloc, page, number)
+    Ok(picking_sheet(alloc, open_order(page, number)?)?)
 }

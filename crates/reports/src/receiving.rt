@@ -8,6 +8,7 @@ ghost use Rattle.reports.specs.PairLines.{lines_text, ReadsBack};
 ghost use Rattle.reports.specs.Receiving as meant;
 ghost use Rattle.store.specs.Pages.{advice_at};
 ghost use Rattle.store.specs.Decided.{IsHeldPart};
+ghost use Rattle.unready.specs.Refused.{IfRefused};
 
 use crate::columns::{append_left, append_right};
 use crate::opened::open_advice;
@@ -16,7 +17,8 @@ use crate::picking::append_ended;
 use definitions::{MOST_ITEM, MOST_LOT, QUANTITY_COLUMN};
 use itoa::Buffer;
 use std::alloc::{AllocError, Global};
-use store::{Goods, KnownAdvice, Need, Page, Refusal};
+use store::{Goods, KnownAdvice, Need, Page};
+use unready::Unready;
 
 /// What a receiving sheet needs of a page: an advice alone. The one error is want of memory.
 pub fn need_of_advice(alloc: Global, shipment: &[u8]) -> Result<Need, AllocError>
@@ -69,107 +71,55 @@ fn announced_csv(alloc: Global, advice: &KnownAdvice) -> Result<Vec<u8>, AllocEr
     Ok(text)
 }
 
-// The receiving sheet of a page's advice, if there is one and it is open. The outer error is want
-// of memory.
-fn sheet_on(
-    alloc: Global,
-    page: &Page,
-    shipment: &[u8],
-) -> Result<Result<Vec<u8>, Refusal>, AllocError>
-    ensures ok { IfOk result
-        (λ made. IfOk made (λ text. meant.sheet_on (advice_at shipment.now page.now.advices)
-        ≡ Ok text.items)) }
-    ensures err { IfOk result
-        (λ made. IfErr made (λ refusal. meant.sheet_on (advice_at shipment.now page.now.advices)
-        ≡ Err refusal)) }
-{
-    match open_advice(page, shipment) {
-        Err(refusal) => Ok(Err(refusal)),
-        Ok(advice) => Ok(Ok(receiving_sheet(alloc, advice)?)),
-    }
-}
-
-// The same pairs as CSV.
-fn csv_on(
-    alloc: Global,
-    page: &Page,
-    shipment: &[u8],
-) -> Result<Result<Vec<u8>, Refusal>, AllocError>
-    ensures ok { IfOk result
-        (λ made. IfOk made (λ text. meant.csv_on (advice_at shipment.now page.now.advices)
-        ≡ Ok text.items)) }
-    ensures err { IfOk result
-        (λ made. IfErr made (λ refusal. meant.csv_on (advice_at shipment.now page.now.advices)
-        ≡ Err refusal)) }
-{
-    match open_advice(page, shipment) {
-        Err(refusal) => Ok(Err(refusal)),
-        Ok(advice) => Ok(Ok(announced_csv(alloc, advice)?)),
-    }
-}
-
 /// The receiving sheet of an open advice, by a page that has the advice: its shipment number, and a
 /// line for each pair that it announces, in its own order: the item left in 20, the lot left in 12,
-/// what was announced, in the unit EA, right in 6, and room to write what came. Refused are 22, an
-/// unknown advice, and 23, one that was counted. The outer error is want of memory.
-pub fn receiving_list(
-    alloc: Global,
-    page: &Page,
-    shipment: &[u8],
-) -> Result<Result<Vec<u8>, Refusal>, AllocError>
+/// what was announced, in the unit EA, right in 6, and room to write what came. The error is 22, an
+/// unknown advice, 23, one that was counted, or want of memory.
+pub fn receiving_list(alloc: Global, page: &Page, shipment: &[u8]) -> Result<Vec<u8>, Unready>
     // Of the history of which the page has the part that is needed.
     ensures ok { IfOk result
-        (λ made. IfOk made (λ text. (h : History)
-        → IsHeldPart (meant.need_of_shipment shipment.now) page.now h
-        → meant.receiving_list h.events shipment.now ≡ Ok text.items)) }
-    ensures err { IfOk result
-        (λ made. IfErr made (λ refusal. (h : History)
+        (λ text. (h : History) → IsHeldPart (meant.need_of_shipment shipment.now) page.now h
+        → meant.receiving_list h.events shipment.now ≡ Ok text.items) }
+    ensures err { IfErr result
+        (IfRefused (λ refusal. (h : History)
         → IsHeldPart (meant.need_of_shipment shipment.now) page.now h
         → meant.receiving_list h.events shipment.now ≡ Err refusal)) }
 
     // The same of the page alone.
     ensures sheet { IfOk result
-        (λ made. IfOk made (λ text. meant.sheet_on (advice_at shipment.now page.now.advices)
-        ≡ Ok text.items)) }
-    ensures none { IfOk result
-        (λ made. IfErr made (λ refusal. meant.sheet_on (advice_at shipment.now page.now.advices)
+        (λ text. meant.sheet_on (advice_at shipment.now page.now.advices) ≡ Ok text.items) }
+    ensures none { IfErr result
+        (IfRefused (λ refusal. meant.sheet_on (advice_at shipment.now page.now.advices)
         ≡ Err refusal)) }
 {
-    sheet_on(alloc, page, shipment)
+    Ok(receiving_sheet(alloc, open_advice(page, shipment)?)?)
 }
 
 /// What an open advice announces, by a page that has the advice, as a sheet for its count: CSV
 /// without a header, the record `item,lot,quantity` for each pair, in the advice's own order, with
-/// quantities in the unit EA. Refused are 22, an unknown advice, and 23, one that was counted. The
-/// outer error is want of memory.
-pub fn receiving_csv(
-    alloc: Global,
-    page: &Page,
-    shipment: &[u8],
-) -> Result<Result<Vec<u8>, Refusal>, AllocError>
+/// quantities in the unit EA. The error is 22, an unknown advice, 23, one that was counted, or want
+/// of memory.
+pub fn receiving_csv(alloc: Global, page: &Page, shipment: &[u8]) -> Result<Vec<u8>, Unready>
     // Of the history of which the page has the part that is needed.
     ensures ok { IfOk result
-        (λ made. IfOk made (λ text. (h : History)
-        → IsHeldPart (meant.need_of_shipment shipment.now) page.now h
-        → meant.receiving_csv h.events shipment.now ≡ Ok text.items)) }
-    ensures err { IfOk result
-        (λ made. IfErr made (λ refusal. (h : History)
+        (λ text. (h : History) → IsHeldPart (meant.need_of_shipment shipment.now) page.now h
+        → meant.receiving_csv h.events shipment.now ≡ Ok text.items) }
+    ensures err { IfErr result
+        (IfRefused (λ refusal. (h : History)
         → IsHeldPart (meant.need_of_shipment shipment.now) page.now h
         → meant.receiving_csv h.events shipment.now ≡ Err refusal)) }
 
     // The same of the page alone.
     ensures sheet { IfOk result
-        (λ made. IfOk made (λ text. meant.csv_on (advice_at shipment.now page.now.advices)
-        ≡ Ok text.items)) }
-    ensures none { IfOk result
-        (λ made. IfErr made (λ refusal. meant.csv_on (advice_at shipment.now page.now.advices)
+        (λ text. meant.csv_on (advice_at shipment.now page.now.advices) ≡ Ok text.items) }
+    ensures none { IfErr result
+        (IfRefused (λ refusal. meant.csv_on (advice_at shipment.now page.now.advices)
         ≡ Err refusal)) }
 
     // A count that is handed the text gets a sheet of just these pairs.
     ensures back { IfOk result
-        (λ made. IfOk made (λ text. (r : Rules) (k : PageAdvice)
-        → advice_at shipment.now page.now.advices ≡ Some k
-        → ReadsBack r Count text.items k.lines)) }
+        (λ text. (r : Rules) (k : PageAdvice) → advice_at shipment.now page.now.advices ≡ Some k
+        → ReadsBack r Count text.items k.lines) }
 {
-    csv_on(alloc, page, shipment)
+    Ok(announced_csv(alloc, open_advice(page, shipment)?)?)
 }

@@ -3,14 +3,15 @@ use Rattle.std.proofs.Common.{◌≡◌, ℕ, ◌+◌, ◌≤◌, ◌<◌, Bool,
 use Rattle.std.specs.Prelude.{nat_lt, is_none}
 use Rattle.std.specs.List.{filter_map, list_any}
 use Rattle.std.proofs.Common.{lt-ltb, ltb-true}
-use Rattle.std.proofs.lemmas.List.{append-nil, drop_all, length-take, take_all}
+use Rattle.std.proofs.lemmas.List.{append-nil, drop_all, length-map, length-take, take_all}
 use Rattle.definitions.specs.declared.rules.Rules.{Rules}
+use Rattle.definitions.specs.Rules.{Today}
 use Rattle.definitions.specs.Limits.{most_lines}
 use Rattle.definitions.specs.Clerk.{RawLine, raw_line, sheet_of, sheet_of_records}
 use Rattle.definitions.specs.declared.sheet_kind.SheetKind.{SheetKind}
 use Rattle.definitions.specs.declared.refusals.Refusal.TheVariants.{TooManyLines, BadText}
 use Rattle.csv.specs.Records.{Row, field_at, fields_of}
-use Rattle.sheet_texts.specs.Texts.{field_of}
+use Rattle.sheet_texts.specs.Texts.{field_of, records_of, sheet_of_text}
 
 pub three_fields : (fs : List (List ℕ)) → length fs ≡ 3 → raw_line fs ≡ Some (record { item = field_of fs 0; lot = field_of fs 1; quantity = field_of fs 2 })
 unfolding field_at
@@ -80,3 +81,9 @@ lines_all rows i lines l h = sym (h ∙ rw (drop_all i rows l, append-nil) refl)
 
 pub all_even : (rows : List Row) (i : ℕ) → length rows ≤ i → has_uneven rows ≡ has_uneven (drop i rows) → false ≡ has_uneven rows
 all_even rows i l h = sym (h ∙ rw (drop_all i rows l) refl)
+
+-- the sheet of a text is that of the lines of its records
+pub of_lines : (kind : SheetKind) (text : List ℕ) (rows : List Row) (lines : List RawLine) → map fields_of rows ≡ take (most_lines Today + 1) (records_of text) → length rows ≤ most_lines Today
+    → has_uneven rows ≡ false → lines ≡ filter_map raw_line (map fields_of rows) → sheet_of_text Today kind text ≡ sheet_of Today kind lines
+of_lines kind text rows lines h few good e =
+    even Today kind (records_of text) (map fields_of rows) h (omega (arith, few, length-map rows fields_of)) good ∙ ap (sheet_of Today kind) (sym e)

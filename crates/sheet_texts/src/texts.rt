@@ -4,12 +4,14 @@ ghost use Rattle.csv.specs.Records.{fields_of, field_at};
 ghost use Rattle.definitions.specs.Rules.{Today};
 ghost use Rattle.definitions.specs.Clerk.{is_sheet, raw_line};
 ghost use Rattle.sheet_texts.specs.Texts.{sheet_of_text, field_of};
+ghost use Rattle.unready.specs.Refused.{IfRefused};
 
 use crate::records::first_records;
 use csv::ByteRecord;
 use definitions::{MOST_LINES_TWO, Refusal, TODAY};
 use sheets::{Line, Sheet, SheetKind};
 use std::alloc::{AllocError, Global};
+use unready::Unready;
 
 /// The field of a record at a place, an empty one where there is none.
 pub(crate) fn field(row: &ByteRecord, at: usize) -> &[u8]
@@ -52,28 +54,21 @@ fn lines_of(alloc: Global, rows: &[ByteRecord]) -> Result<Option<Vec<Line>>, All
 }
 
 /// The sheet of a text of CSV (RFC 4180) without a header: records of three fields, item, lot and
-/// quantity. The inner error is the first refusal that holds: 33 over 999 records; 32 a record that
-/// hasn't three fields, or a text in one that can't be read, or a pick of 0; 30 a quantity over its
-/// limit; 31 a pair of item and lot twice. The outer one is want of memory.
-pub fn sheet(
-    alloc: Global,
-    kind: SheetKind,
-    text: &[u8],
-) -> Result<Result<Sheet, Refusal>, AllocError>
-    ensures ok { IfOk result
-        (λ made. IfOk made (λ sheet. sheet_of_text Today kind text.now ≡ Ok sheet)) }
-    ensures kind { IfOk result
-        (λ made. IfOk made (λ sheet. is_sheet Today kind sheet ≡ true)) }
-    ensures err { IfOk result
-        (λ made. IfErr made
-        (λ refusal. sheet_of_text Today kind text.now ≡ Err refusal)) }
+/// quantity. The error is want of memory, or the first refusal that holds: 33 over 999 records; 32
+/// a record that hasn't three fields, or a text in one that can't be read, or a pick of 0; 30 a
+/// quantity over its limit; 31 a pair of item and lot twice.
+pub fn sheet(alloc: Global, kind: SheetKind, text: &[u8]) -> Result<Sheet, Unready>
+    ensures ok { IfOk result (λ sheet. sheet_of_text Today kind text.now ≡ Ok sheet) }
+    ensures kind { IfOk result (λ sheet. is_sheet Today kind sheet ≡ true) }
+    ensures err { IfErr result
+        (IfRefused (λ refusal. sheet_of_text Today kind text.now ≡ Err refusal)) }
 {
     let rows = first_records(alloc, text)?;
     if rows.len() > usize::from(MOST_LINES_TWO) {
-        return Ok(Err(Refusal::TooManyLines));
+        return Err(Unready::Refused(Refusal::TooManyLines));
     }
     let Some(lines) = lines_of(alloc, &rows)? else {
-        return Ok(Err(Refusal::BadText));
+        return Err(Unready::Refused(Refusal::BadText));
     };
-    Ok(Sheet::new(kind, lines, TODAY))
+    Ok(Sheet::new(kind, lines, TODAY)?)
 }

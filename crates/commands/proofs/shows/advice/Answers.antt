@@ -30,7 +30,7 @@ returns-in_default g c = record {
 
 pub returns-in-Ok : goal.returns-in-Ok
 returns-in-Ok g c =
-    let listed = rw c.in-Ok.is at c.in_ok-sheet.ensures.ok in
+    let listed = rw c.in-Ok.is at c.receiving_text.ensures.ok in
     record {
       said = λ clean L kept legal. none_said _ (g.E.Write.contents c.args.err.now) (sheet_why need_of_shipment (receiving c.args.is_csv) c.args.number.now _ _ _ _ _ c.in-Some.page (Ok c.in-Ok.sheet.items)
           c.as_bytes.ensures.value c.as_bytes-2.ensures.value c.in_ok-need.ensures c.in-Some.is (c.in_ok-page.ensures.page clean L kept legal) listed);
@@ -49,7 +49,7 @@ pub returns-in_err-print-in-Ok : goal.returns-in_err-print-in-Ok
 returns-in_err-print-in-Ok g c =
     let halted : IfErr c.from_residual-in_err-print-in-Ok.result IsDeviceStop =
     handed_on c.from_residual-in_err-print-in-Ok.result _ _ c.from_residual-in_err-print-in-Ok.ensures (λ stop is. is.device) in
-    let listed = rw c.in-Ok.is at c.in_ok-sheet.ensures.ok in
+    let listed = rw c.in-Ok.is at c.receiving_text.ensures.ok in
     record {
       said = search rules;
       caused = search rules;
@@ -63,22 +63,22 @@ returns-in_err-print-in-Ok g c =
       };
     }
 
-pub returns : goal.returns
-returns g c =
-    let refused = rw c.in-Err.is at c.in_ok-sheet.ensures.err in
+pub returns-in-Err-Refused : goal.returns-in-Err-Refused
+returns-in-Err-Refused g c =
+    let refused = rw c.in-Err-Refused.field-0-is at c.in-Err-Refused.ensures.err in
     record {
-      said = λ clean L kept legal. why_said (refused_sheet (Err c.in-Err.refusal)) _ (g.E.Write.contents c.args.err.now) (g.E.Write.contents c.tell_refusal-in-Err.new.err) c.tell_refusal-in-Err.result (sheet_why need_of_shipment (receiving c.args.is_csv) c.args.number.now _ _ _ _ _ c.in-Some.page (Err c.in-Err.refusal)
-          c.as_bytes.ensures.value c.as_bytes-2.ensures.value c.in_ok-need.ensures c.in-Some.is (c.in_ok-page.ensures.page clean L kept legal) refused) c.tell_refusal-in-Err.ensures.printed;
+      said = λ clean L kept legal. why_said (refused_sheet (Err c.in-Err-Refused.refusal)) _ (g.E.Write.contents c.args.err.now) (g.E.Write.contents c.tell_refusal-in-Err-Refused.new.err) c.tell_refusal-in-Err-Refused.result (sheet_why need_of_shipment (receiving c.args.is_csv) c.args.number.now _ _ _ _ _ c.in-Some.page (Err c.in-Err-Refused.refusal)
+          c.as_bytes.ensures.value c.as_bytes-2.ensures.value c.in_ok-need.ensures c.in-Some.is (c.in_ok-page.ensures.page clean L kept legal) refused) c.tell_refusal-in-Err-Refused.ensures.printed;
       caused = search rules;
       looked = record {
         shown = λ clean L kept legal.
-            IfOk-weaker c.tell_refusal-in-Err.result _ _ (λ status is. no_sheet_shown need_of_shipment (receiving c.args.is_csv) c.args.number.now _ _ _ _ _ c.in-Some.page c.in-Err.refusal _ _
+            IfOk-weaker c.tell_refusal-in-Err-Refused.result _ _ (λ status is. no_sheet_shown need_of_shipment (receiving c.args.is_csv) c.args.number.now _ _ _ _ _ c.in-Some.page c.in-Err-Refused.refusal _ _
             c.as_bytes.ensures.value c.as_bytes-2.ensures.value c.in_ok-need.ensures c.in-Some.is (c.in_ok-page.ensures.page clean L kept legal)
-            refused is) c.tell_refusal-in-Err.ensures.says;
+            refused is) c.tell_refusal-in-Err-Refused.ensures.says;
         same = c.load.ensures.query.reading.same;
         stopped = unshown_none (g.K.Keeper.standing c.args.book.now) (g.K.Keeper.standing c.load.new.self) (λ L. shown_advice c.args.is_csv c.args.number.now (standing (own L c.args.who)))
-            (shown_sheet (Err c.in-Err.refusal)) (g.W.Write.contents c.args.out.now) c.tell_refusal-in-Err.result
-            (λ clean L kept legal. sheet_read need_of_shipment (receiving c.args.is_csv) c.args.number.now _ _ _ _ _ c.in-Some.page (Err c.in-Err.refusal)
-            c.as_bytes.ensures.value c.as_bytes-2.ensures.value c.in_ok-need.ensures c.in-Some.is (c.in_ok-page.ensures.page clean L kept legal) refused) refl c.tell_refusal-in-Err.ensures.halted;
+            (shown_sheet (Err c.in-Err-Refused.refusal)) (g.W.Write.contents c.args.out.now) c.tell_refusal-in-Err-Refused.result
+            (λ clean L kept legal. sheet_read need_of_shipment (receiving c.args.is_csv) c.args.number.now _ _ _ _ _ c.in-Some.page (Err c.in-Err-Refused.refusal)
+            c.as_bytes.ensures.value c.as_bytes-2.ensures.value c.in_ok-need.ensures c.in-Some.is (c.in_ok-page.ensures.page clean L kept legal) refused) refl c.tell_refusal-in-Err-Refused.ensures.halted;
       };
     }

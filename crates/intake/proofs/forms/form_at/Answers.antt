@@ -11,10 +11,10 @@ returns-in_default-2-clause-response g c = λ clean L keeps legal.
 pub returns-in-Ok-clause-response : goal.returns-in-Ok-clause-response
 returns-in-Ok-clause-response g c = λ clean L keeps legal.
     let held = rw c.in-Some-2.is at (c.in_ok-page.ensures.page clean L keeps legal) in
-    c.with_text.ensures ∙ formed L c.args.form c.args.number.now c.in-Some.who _ _ _ _ c.in-Some.ensures c.in_ok-need.ensures held (rw c.in-Ok.is at c.in_ok-text.ensures.ok)
+    c.with_text.ensures ∙ formed L c.args.form c.args.number.now c.in-Some.who _ _ _ _ c.in-Some.ensures c.in_ok-need.ensures held c.in-Ok.ensures.ok
 
-pub returns-clause-response : goal.returns-clause-response
-returns-clause-response g c = λ clean L keeps legal.
+pub returns-in-Err-Refused-clause-response : goal.returns-in-Err-Refused-clause-response
+returns-in-Err-Refused-clause-response g c = λ clean L keeps legal.
     let held = rw c.in-Some-2.is at (c.in_ok-page.ensures.page clean L keeps legal) in
-    c.refused.ensures ∙ ap (refused_response c.in-Err.refusal) c.new.ensures.items
-    ∙ formed L c.args.form c.args.number.now c.in-Some.who _ _ _ _ c.in-Some.ensures c.in_ok-need.ensures held (rw c.in-Err.is at c.in_ok-text.ensures.err)
+    c.refused.ensures ∙ ap (refused_response c.in-Err-Refused.refusal) c.new.ensures.items
+    ∙ formed L c.args.form c.args.number.now c.in-Some.who _ _ _ _ c.in-Some.ensures c.in_ok-need.ensures held (rw c.in-Err-Refused.field-0-is at c.in-Err-Refused.ensures.err)

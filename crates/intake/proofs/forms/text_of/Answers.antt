@@ -1,5 +1,11 @@
 use Rattle.intake.proofs.forms.text_of.Goals as goal
 
+pub returns-in-PickList-clause-ok : goal.returns-in-PickList-clause-ok
+returns-in-PickList-clause-ok c = rw c.in-PickList.is c.pick_list.ensures.ok
+
+pub returns-in-PickList-clause-err : goal.returns-in-PickList-clause-err
+returns-in-PickList-clause-err c = rw c.in-PickList.is c.pick_list.ensures.err
+
 pub returns-in-ReceivingList-clause-ok : goal.returns-in-ReceivingList-clause-ok
 returns-in-ReceivingList-clause-ok c = rw c.in-ReceivingList.is c.receiving_list.ensures.ok
 

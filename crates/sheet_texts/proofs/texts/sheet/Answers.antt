@@ -1,13 +1,14 @@
-use Rattle.std.proofs.Common.{◌≡◌, ◌<◌, ◌≤◌, ◌+◌, ℕ, List, true, false, map, length, take, ap, sym, ◌∙◌, rules, arith}
-use Rattle.std.specs.List.{filter_map}
+use Rattle.std.proofs.Common.{◌≡◌, ◌<◌, ◌≤◌, ◌+◌, ℕ, List, true, map, length, take, ap, sym, subst, ◌∙◌, Result, Ok, Err, IfErr, IsErrAnd, rules, arith}
 use Rattle.std.proofs.lemmas.List.{length-map}
-use Rattle.std.proofs.lemmas.Result.{IfOk-weaker, IfErr-weaker}
 use Rattle.csv.specs.Records.{fields_of}
+use Rattle.definitions.specs.declared.refusals.Refusal.{Refusal}
 use Rattle.definitions.specs.Rules.{Today}
 use Rattle.definitions.specs.Limits.{most_lines}
-use Rattle.definitions.specs.Clerk.{raw_line, sheet_of}
-use Rattle.sheet_texts.specs.Texts.{records_of, sheet_of_text}
-use Rattle.sheet_texts.proofs.LineLaws.{too_many, uneven, even, is_uneven}
+use Rattle.sheet_texts.specs.Texts.{records_of}
+use Rattle.sheet_texts.proofs.LineLaws.{too_many, uneven, is_uneven, of_lines}
+use Rattle.unready.specs.Refused.{IfRefused}
+use Rattle.unready.specs.declared.Unready.{Unready}
+use Rattle.unready.specs.declared.Unready.TheVariants.{Refused}
 use Rattle.sheet_texts.proofs.texts.sheet.Goals as goal
 
 pub returns-then-len-from-clause-err : goal.returns-then-len-from-clause-err
@@ -22,17 +23,17 @@ returns-in_default-clause-err c =
     let bad : is_uneven rows ≡ true = search rules in
     uneven Today c.args.kind (records_of c.args.text.now) rows c.in_ok-rows.ensures few bad
 
--- the sheet of the text is that of the lines
-is_of_lines : (c : goal.After-drop-rows-2) → sheet_of_text Today c.args.kind c.args.text.now ≡ sheet_of Today c.args.kind c.in-Some.lines.items
-is_of_lines c =
-    let rows = map fields_of c.in_ok-rows.rows.items in
-    let few : length rows ≤ most_lines Today = omega (arith, c.len.ensures, c.from.ensures, c.if-len-from.false, length-map c.in_ok-rows.rows.items fields_of) in
-    let good : is_uneven rows ≡ false = search rules in
-    let lines : c.in-Some.lines.items ≡ filter_map raw_line rows = search rules in
-    even Today c.args.kind (records_of c.args.text.now) rows c.in_ok-rows.ensures few good ∙ ap (sheet_of Today c.args.kind) (sym lines)
-
 pub returns-clause-ok : goal.returns-clause-ok
-returns-clause-ok c = IfOk-weaker c.new.result _ _ (λ sheet made. is_of_lines c ∙ made) c.new.ensures.ok
+returns-clause-ok c = of_lines c.args.kind c.args.text.now c.in_ok-rows.rows.items c.in-Some.lines.items c.in_ok-rows.ensures (omega (arith, c.len.ensures, c.from.ensures, c.if-len-from.false)) (search rules) (search rules)
+    ∙ c.in_ok-new.ensures.ok
 
-pub returns-clause-err : goal.returns-clause-err
-returns-clause-err c = IfErr-weaker c.new.result _ _ (λ refusal why. is_of_lines c ∙ why) c.new.ensures.err
+-- a refusal that is handed on
+refused : {X : Type 0} (r : Result X Unready) (refusal : Refusal) (P : Refusal → Type 0) → IsErrAnd r (λ why. why ≡ Refused refusal) → P refusal → IfErr r (IfRefused P)
+refused (Ok x) refusal P why so = tt
+refused (Err u) refusal P why so = subst (IfRefused P) (sym why) so
+
+pub returns-in_err-new-clause-err : goal.returns-in_err-new-clause-err
+returns-in_err-new-clause-err c =
+    refused c.from_residual-in_err-new.result c.in_err-new.field-0.0 _ c.from_residual-in_err-new.ensures.1
+    (of_lines c.args.kind c.args.text.now c.in_ok-rows.rows.items c.in-Some.lines.items c.in_ok-rows.ensures (omega (arith, c.len.ensures, c.from.ensures, c.if-len-from.false)) (search rules) (search rules)
+    ∙ c.in_err-new.ensures.err)

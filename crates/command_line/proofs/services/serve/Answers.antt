@@ -1,4 +1,4 @@
-use Rattle.command_line.proofs.subcommands.serve.Goals as goal
+use Rattle.command_line.proofs.services.serve.Goals as goal
 
 pub returns : goal.returns
 returns c =

@@ -1,0 +1,5 @@
+use Rattle.std.proofs.Common.{◌+◌, ◌≤◌}
+use Rattle.intake.proofs.crowd.Crowd.finish.Given as goal
+
+abbrev pub invariant-loop : goal.invariant-loop
+invariant-loop g l = (l.fn.self.lost ≤ l.self.lost) × (l.self.lost ≤ l.fn.self.lost + l.counter)
